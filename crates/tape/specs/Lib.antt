@@ -1,0 +1,5 @@
+pub mod Symbols
+pub mod Meaning
+pub mod Refusals
+pub mod Display
+pub mod Dense

@@ -1,0 +1,5 @@
+pub mod Input
+pub mod Word
+pub mod Lay
+pub mod Page
+pub mod Transcript
