@@ -26,13 +26,13 @@ pub ghost-self-else-code-eq-BLANK : need.ghost-self-else-code-eq-BLANK
 ghost-self-else-code-eq-BLANK c =
     let t = c .args .self .now in
     let on = tested t _ true (c .next .ensures) (c .if-is-at .ensures tt) in
-    fields (c .replace .ensures .held) (put-replace (t .size) (t .head) (c .args .code) (held (t .records .now)) (kept-of t) on (omega arith) (c .if-code-gt-HIGHEST-CODE .left) .kept)
+    fields (c .replace .ensures .held) (put-replace (t .size) (t .head) (c .args .code) (held (t .records .now)) (kept-of t) on (omega arith) (omega arith) .kept)
 
 pub ghost-self-else-code-eq-BLANK-2 : need.ghost-self-else-code-eq-BLANK-2
 ghost-self-else-code-eq-BLANK-2 c =
     let t = c .args .self .now in
     let off = tested t _ false (c .next .ensures) (c .if-is-at .ensures tt) in
-    fields (c .insert .ensures .held) (put-insert (t .size) (t .head) (c .args .code) (held (t .records .now)) (kept-of t) off (omega arith) (c .if-code-gt-HIGHEST-CODE .left) .kept)
+    fields (c .insert .ensures .held) (put-insert (t .size) (t .head) (c .args .code) (held (t .records .now)) (kept-of t) off (omega arith) (omega arith) .kept)
 
 pub returns-then-code-eq-BLANK : need.returns-then-code-eq-BLANK
 returns-then-code-eq-BLANK c =
@@ -45,7 +45,7 @@ pub returns-else-code-eq-BLANK : need.returns-else-code-eq-BLANK
 returns-else-code-eq-BLANK c =
     let t = c .args .self .now in
     let on = tested t _ true (c .next .ensures) (c .if-is-at .ensures tt) in
-    let p = put-replace (t .size) (t .head) (c .args .code) (held (t .records .now)) (kept-of t) on (omega arith) (c .if-code-gt-HIGHEST-CODE .left) in
+    let p = put-replace (t .size) (t .head) (c .args .code) (held (t .records .now)) (kept-of t) on (omega arith) (omega arith) in
     record { answer = p .answer; after = ap (of-list (t .size) (t .head)) (c .replace .ensures .held) ∙ p .after; lent = ap (λ a. t .records .name ∷ a ∷ []) (c .replace .ensures .lent) }
 
 pub returns-then-code-eq-BLANK-2 : need.returns-then-code-eq-BLANK-2
@@ -60,7 +60,7 @@ returns-in-Ok c =
     let t = c .args .self .now in
     let s = c .in-Ok .ensures tt in
     let off = tested t _ false (c .next .ensures) (c .if-is-at .ensures tt) in
-    let p = put-insert (t .size) (t .head) (c .args .code) (held (t .records .now)) (kept-of t) off (omega arith) (c .if-code-gt-HIGHEST-CODE .left) in
+    let p = put-insert (t .size) (t .head) (c .args .code) (held (t .records .now)) (kept-of t) off (omega arith) (omega arith) in
     record {
       answer = insert-done (is-full (held (t .records .now))) _ (s .answer) ∙ p .answer;
       after = ap (of-list (t .size) (t .head)) (s .held) ∙ p .after;
@@ -72,7 +72,7 @@ returns-in-Err c =
     let t = c .args .self .now in
     let s = c .in-Err .ensures tt in
     let off = tested t _ false (c .next .ensures) (c .if-is-at .ensures tt) in
-    let p = put-insert (t .size) (t .head) (c .args .code) (held (t .records .now)) (kept-of t) off (omega arith) (c .if-code-gt-HIGHEST-CODE .left) in
+    let p = put-insert (t .size) (t .head) (c .args .code) (held (t .records .now)) (kept-of t) off (omega arith) (omega arith) in
     record {
       answer = insert-refused (is-full (held (t .records .now))) _ (s .answer) ∙ p .answer;
       after = ap (of-list (t .size) (t .head)) (s .held) ∙ p .after;

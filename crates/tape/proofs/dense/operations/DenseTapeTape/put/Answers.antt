@@ -12,7 +12,7 @@ use Rattle.tape.proofs.dense.operations.DenseTapeTape.put.Needs as need
 pub ghost-self : need.ghost-self
 ghost-self c =
     let t = c .args .self .now in
-    let fits = codes-set (t .cells .now) (t .head) (c .args .code) (c .if-code-gt-HIGHEST-CODE .left) (t .codes) in
+    let fits = codes-set (t .cells .now) (t .head) (c .args .code) (omega arith) (t .codes) in
     (simp length-set (omega arith), (simp length-set (omega arith), (fits, tt)))
 
 pub returns : need.returns
