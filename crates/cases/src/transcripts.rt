@@ -20,7 +20,10 @@ fn words() -> Result<(), Fail> {
         b"no percent",
         b"dense _______________\nsparse _______________\n",
     )?;
-    prints(b"x%", b"dense _______________\nsparse _______________\n")?;
+    prints(
+        b"alphabet = {a}\r\n\tmodule m {}%",
+        b"dense _______________\nsparse _______________\n",
+    )?;
     prints(
         b"%ab_9z\nrest % of it",
         b"dense _______ab_9z___\nsparse _______ab_9z___\n",
@@ -29,6 +32,25 @@ fn words() -> Result<(), Fail> {
         b"%abcdefghij",
         b"dense _______abcdefgh\nsparse _______abcdefgh\n",
     )
+}
+
+#[test]
+fn refused_sources() -> Result<(), Fail> {
+    prints(b"#%a", b"refused 2 at 0\n")?;
+    prints(b"alphabet={\"a\"}%A", b"refused 2 at 10\n")?;
+    prints(b"alphabet={a}module m{goto n}#", b"refused 2 at 28\n")?;
+    prints(b"a_b%ab", b"refused 2 at 1\n")
+}
+
+#[test]
+fn longest_source() -> Result<(), Fail> {
+    let mut input = [b' '; 60_001];
+    prints(
+        &input[0..60_000],
+        b"dense _______________\nsparse _______________\n",
+    )?;
+    input[0] = b'#';
+    prints(&input, b"refused 1 at 60000\n")
 }
 
 #[test]

@@ -10,6 +10,10 @@ abbrev pub index-of : ℕ → List ℕ → ℕ
 index-of b [] = 0
 index-of b (x ∷ xs) = cond (eqb x b) 0 (suc (index-of b xs))
 
+-- the source: up to the first `%` (37) or the end
+abbrev pub source-text : List ℕ → List ℕ
+source-text input = take (index-of 37 input) input
+
 -- the word's text: behind the first `%` (37), up to LF (10) or the end
 abbrev pub word-text : List ℕ → List ℕ
 word-text input =

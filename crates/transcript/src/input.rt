@@ -1,7 +1,7 @@
 ghost use mathlib.Core.Path.{_≡_};
 ghost use Prim.Native.Nat.{_≤_};
 ghost use lib.ListN.{length};
-ghost use Rattle.transcript.specs.Input.{index-of, word-text};
+ghost use Rattle.transcript.specs.Input.{index-of, source-text, word-text};
 
 // Where a byte first stands, or the length where it doesn't.
 fn find(bytes: &[u8], wanted: u8) -> usize
@@ -14,6 +14,13 @@ fn find(bytes: &[u8], wanted: u8) -> usize
         }
     }
     bytes.len()
+}
+
+// The source: up to the first `%` or the end.
+pub fn source_text(input: &[u8]) -> &[u8]
+    ensures { λ r. ⌜ now r ≡ source-text (now (input .entry)) ⌝ }
+{
+    &input[0..find(input, b'%')]
 }
 
 // The word's text: behind the first `%`, up to LF or the end.

@@ -5,12 +5,15 @@ ghost use lib.ListN.{length};
 ghost use Rattle.transcript.specs.Page.{begun, print-answer, print-after};
 ghost use Rattle.transcript.specs.Transcript.{tape-line, word-lines, transcript-of};
 ghost use Rattle.transcript.specs.Word.{codes-in};
+use crate::input::source_text;
 use crate::input::word_text;
 use crate::page::TooShort;
 use crate::page::append;
 use crate::page::print;
 use crate::show::dense_display;
 use crate::show::sparse_display;
+use crate::source::bytes_fault_of;
+use crate::source::print_fault;
 use crate::word::Word;
 
 // How long a transcript may be.
@@ -22,6 +25,9 @@ pub fn transcript(input: &[u8], output: &mut [u8]) -> Result<usize, TooShort>
     ensures after { λ _. ⌜ now (output .exit) ≡ print-after (transcript-of (now (input .entry))) (now (output .entry)) ⌝ }
     ensures longest { λ _. ⌜ length (transcript-of (now (input .entry))) ≤ 45 ⌝ }
 {
+    if let Some(fault) = bytes_fault_of(source_text(input)) {
+        return print_fault(fault, output);
+    }
     match Word::read(word_text(input)) {
         Some(word) => print(&lines_of(&word), output),
         None => print(b"bad word\n", output),

@@ -1,0 +1,12 @@
+pub mod Tests
+pub mod Items
+pub mod Edges
+pub mod Entries
+pub mod Stacks
+pub mod Sound
+pub mod Answers
+pub mod Programs
+pub mod Laws
+pub mod Places
+pub mod Openings
+pub mod BorderCases
