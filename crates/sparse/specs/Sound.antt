@@ -12,6 +12,7 @@ use Rattle.std.proofs.shelf.Counted.{length-map-counting, getD-map-counting}
 use Rattle.std.proofs.shelf.Lists.{ext-getD, getD-set-same, getD-set-other}
 use Rattle.std.proofs.shelf.Tests.{cases-eq}
 use borrow.Author.Tests.{eq-eqb, ne-eqb, le-leb, lt-ltb, leb-true, ltb-true}
+use Rattle.tape.proofs.Cells.{both}
 use Rattle.tape.specs.Meaning.{Meaning, Valid, nonblank, all-codes}
 use Rattle.sparse.specs.declared.record.NonblankCell.{NonblankCell}
 use Rattle.sparse.specs.Records.{code-at, cells-of, Rising, rising, of-records}
@@ -35,10 +36,6 @@ cells-put n rs ss h c lt here there =
       | inl e ↦ ap (λ j. getD (cells-of n ss) j 0) e ∙ getD-cells n ss h lt ∙ here ∙ sym (ap (λ j. getD (set (cells-of n rs) h c) j 0) e ∙ getD-set-same (cells-of n rs) h c 0 hl)
       | inr ne ↦ getD-cells n ss k kn ∙ there k ne ∙ sym (getD-set-other (cells-of n rs) h k c 0 ne ∙ getD-cells n rs k kn)
     ])
-
-both : (a b : Bool) → (a && b) ≡ true → (a ≡ true) × (b ≡ true)
-both true b h = (refl, h)
-both false b h = let z : _≡_ {A = ℕ} 0 1 = cc in absurd (omega arith)
 
 pub rises : (a b : ℕ) (rs : List NonblankCell) → rising a b rs ≡ true → Rising a b rs
 rises a b [] h = leb-true a b h

@@ -12,6 +12,7 @@ use Rattle.std.proofs.shelf.Lists.{append-assoc, length-append, length-take, ta
 use Rattle.std.specs.Written.{decimal}
 use Rattle.transcript.specs.Page.{begun, print-answer, print-after}
 use Rattle.transcript.specs.Source.{fault-line}
+use Rattle.transcript.proofs.Pages.{longer}
 use Rattle.transcript.proofs.source.print_fault.Needs as need
 
 -- a byte has at most three digits, a place at most twenty
@@ -20,9 +21,6 @@ of-byte n small = length-decimal-le 3 n (omega arith) (omega arith) (omega arith
 
 of-place : (n : ℕ) → n < 2 ^ 64 → length (decimal n) ≤ 20
 of-place n small = length-decimal-le 20 n (omega arith) (omega arith) small
-
-longer : (at : ℕ) (text more : List ℕ) (r : ℕ) → at ≡ length text → r ≡ at + length more → r ≡ length (text ++ more)
-longer at text more r a e = let l = length-append text more in omega arith
 
 pub append-decimal-at-requires : need.append-decimal-at-requires
 append-decimal-at-requires c κs = omega (arith, of-byte (c .number .result) (c .number .ok))

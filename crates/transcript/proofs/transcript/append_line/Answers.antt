@@ -6,6 +6,7 @@ use lib.ListN.{length}
 use Rattle.std.proofs.shelf.Lists.{append-assoc, length-append}
 use Rattle.transcript.specs.Page.{begun}
 use Rattle.transcript.specs.Transcript.{tape-line}
+use Rattle.transcript.proofs.Pages.{longer}
 use Rattle.transcript.proofs.transcript.append_line.Needs as need
 
 line-length : (name shown : List ℕ) → length (tape-line name shown) ≡ length name + 1 + length shown + 1
@@ -13,9 +14,6 @@ line-length name shown =
     let a = length-append name (32 ∷ (shown ++ (10 ∷ []))) in
     let b = length-append shown (10 ∷ []) in
     omega arith
-
-longer : (at : ℕ) (text more : List ℕ) (r : ℕ) → at ≡ length text → r ≡ at + length more → r ≡ length (text ++ more)
-longer at text more r a e = let l = length-append text more in omega arith
 
 pub append-at-requires : need.append-at-requires
 append-at-requires c κs = omega (arith, line-length (c .args .name .now) (c .args .shown .now))
