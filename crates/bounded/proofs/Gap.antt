@@ -1,11 +1,10 @@
 -- A memory xs with a gap from f to b: what it holds, and what it holds after a change of one record.
-use mathlib.Core.Path.{_≡_, refl, sym, ap, _∙_, subst}
+use mathlib.Core.Path.{_≡_, refl, sym, ap, _∙_}
 use mathlib.Core.Bool.{true, false, cond}
 use mathlib.Core.List.{List, [], _∷_, _++_}
 use Prim.Native.Nat.{ℕ, _+_, _-_, _<_, _≤_}
 use native.Mathlib.Nat.{add-zero}
 use native.Mathlib.Omega.{arith}
-use lib.Dec.{leb}
 use lib.ListN.{length, take, drop, getD, set, length-set}
 use borrow.Author.Tests.{le-leb, lt-leb}
 use Rattle.std.proofs.shelf.Lists.{length-append, length-take-le, length-drop, drop-more, drop-set, drop-set-lt, drop-set-add, drop-drop, drop-all, take-set-le, take-more-set, take-take, getD-take, getD-drop, getD-append-left, getD-append-right}

@@ -1,16 +1,15 @@
 -- What a list of records is after each call, as the tape's meaning has it.
 use mathlib.Core.Path.{_≡_, refl, sym, ap, _∙_, subst}
 use mathlib.Core.Logic.{_≢_}
-use mathlib.Core.List.{List, [], _∷_, _++_}
+use mathlib.Core.List.{List, _∷_}
 use mathlib.Core.Bool.{Bool, true, false, cond}
 use Prim.Native.Nat.{ℕ, _+_, _-_, _≤_, _<_}
 use native.Mathlib.Omega.{arith}
 use lib.IntN.{ℤ}
-use lib.ListN.{length, take, drop}
+use lib.ListN.{length, drop}
 use borrow.Author.Tests.{ne-eqb, lt-leb, le-leb, leb-true, leb-false}
 use Rattle.std.proofs.shelf.Lists.{length-append}
 use Rattle.std.proofs.shelf.Ways.{tells}
-use Rattle.std.specs.declared.option.Option.{Option}
 use Rattle.std.specs.declared.option.Option.the-variants.{Some, None}
 use Rattle.std.specs.declared.result.Result.{Result}
 use Rattle.std.specs.declared.result.Result.the-variants.{Ok, Err}
@@ -26,7 +25,7 @@ use Rattle.sparse.specs.declared.record.NonblankCell.{NonblankCell}
 use Rattle.sparse.specs.declared.tape.SparseTape.{SparseTape}
 use Rattle.sparse.specs.Records.{code-at, cells-of, Rising, rising, stands, of-records}
 use Rattle.sparse.specs.Sound.{rises, rises-test, rising-low, rising-join, length-cells, getD-cells, nonblank-cells}
-use Rattle.sparse.proofs.Order.{Parted, right-on, right-off, left-on, left-off, rising-high}
+use Rattle.sparse.proofs.Order.{right-on, right-off, left-on, left-off, rising-high}
 use Rattle.sparse.proofs.Codes.{Written, written-over, written-out, written-in, written-not, off-blank, on-nonblank, code-right, cells-written}
 
 -- the tape of n cells that a list stands for, with the head at h

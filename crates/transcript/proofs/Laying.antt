@@ -1,5 +1,5 @@
 -- One code laid after others; and a word laid on blank cells.
-use mathlib.Core.Path.{_≡_, refl, sym, ap, _∙_, subst}
+use mathlib.Core.Path.{_≡_, sym, ap, _∙_}
 use mathlib.Core.List.{List, [], _∷_, _++_}
 use mathlib.Core.Bool.{true, cond}
 use Prim.Native.Nat.{ℕ, suc, _+_, _-_, _<_, _≤_}

@@ -7,7 +7,7 @@ use Rattle.std.proofs.shelf.Lists.{drop-all}
 use Rattle.std.proofs.shelf.Results.{err-from-errBy}
 use Rattle.std.specs.declared.result.Result.the-variants.{Ok, Err}
 use Rattle.tape.specs.Meaning.{Meaning}
-use Rattle.transcript.specs.Lay.{Laid, laid, lay-one}
+use Rattle.transcript.specs.Lay.{laid, lay-one}
 use Rattle.transcript.proofs.Laying.{of, before-one, one-done, no-shift, no-put, refused}
 use Rattle.transcript.proofs.lay.lay.Needs as need
 

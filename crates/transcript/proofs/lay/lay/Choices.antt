@@ -1,6 +1,5 @@
 use mathlib.Core.Path.{_≡_}
-use Prim.Native.Nat.{_≤_}
-use lib.ListN.{length, drop}
+use lib.ListN.{drop}
 use Rattle.std.specs.declared.result.Result.the-variants.{Ok}
 use Rattle.transcript.specs.Lay.{laid}
 use Rattle.transcript.proofs.Laying.{of}

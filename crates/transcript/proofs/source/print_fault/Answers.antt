@@ -8,7 +8,7 @@ use lib.ListN.{length, replicate, take}
 use mir.Syntax.{w64}
 use mir.Val.{Fits}
 use Rattle.std.proofs.shelf.Decimals.{length-decimal-le}
-use Rattle.std.proofs.shelf.Lists.{append-assoc, length-append, length-take, take-at}
+use Rattle.std.proofs.shelf.Lists.{append-assoc, length-take, take-at}
 use Rattle.std.specs.Written.{decimal}
 use Rattle.transcript.specs.Page.{begun, print-answer, print-after}
 use Rattle.transcript.specs.Source.{fault-line}

@@ -1,7 +1,6 @@
 use mathlib.Core.Path.{refl}
-use Prim.Native.Nat.{_<_}
 use native.Mathlib.Omega.{arith}
-use lib.ListN.{length, length-set}
+use lib.ListN.{length-set}
 use borrow.Author.Needs.{needs}
 use Rattle.bounded.proofs.Gap.{next-in, forward-on}
 use Rattle.bounded.proofs.list.BoundedList.forward.Needs as need

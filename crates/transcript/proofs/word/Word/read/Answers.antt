@@ -1,15 +1,13 @@
-use mathlib.Core.Path.{_≡_, refl, sym, ap, _∙_, subst}
+use mathlib.Core.Path.{_≡_, sym, ap, _∙_, subst}
 use mathlib.Core.Bool.{cond}
-use mathlib.Core.List.{List, [], _∷_, _++_}
+use mathlib.Core.List.{List, _∷_, _++_}
 use Prim.Native.Nat.{ℕ, _+_, _<_, _≤_}
 use native.Mathlib.Omega.{arith}
 use lib.ListN.{length, take, drop, getD, length-set}
 use borrow.Author.Tests.{le-leb}
 use Rattle.std.proofs.shelf.Lists.{take-all, take-more, take-more-set, drop-more, take-append-drop}
 use Rattle.std.specs.Options.{mapped}
-use Rattle.std.specs.declared.option.Option.{Option}
 use Rattle.std.specs.declared.option.Option.the-variants.{Some, None}
-use Rattle.tape.specs.Symbols.{cell-code}
 use Rattle.transcript.specs.Word.{codes-in, codes-of, read-word}
 use Rattle.transcript.proofs.Words.{codes-push, codes-none, codes-fit}
 use Rattle.transcript.proofs.word.Word.read.Needs as need

@@ -1,11 +1,10 @@
 use mathlib.Core.Path.{_≡_, refl, sym, ap, _∙_}
 use mathlib.Core.Bool.{Bool, true, false}
 use mathlib.Core.List.{[], _∷_}
-use Prim.Native.Nat.{ℕ, _<_}
 use native.Mathlib.Omega.{arith}
 use denote.Ref.{now}
 use Rattle.std.specs.declared.option.Option.{Option}
-use Rattle.bounded.specs.Held.{held, is-full, next-of, inserted, deleted, replaced}
+use Rattle.bounded.specs.Held.{held, is-full, next-of}
 use Rattle.sparse.specs.declared.record.NonblankCell.{NonblankCell}
 use Rattle.sparse.specs.declared.tape.SparseTape.{SparseTape}
 use Rattle.sparse.specs.Records.{stands}

@@ -1,11 +1,10 @@
 use mathlib.Core.Path.{_≡_, refl, sym, ap, _∙_, subst}
 use mathlib.Core.Bool.{Bool, true, false}
 use mathlib.Core.List.{[], _∷_}
-use Prim.Native.Nat.{ℕ, _+_, _-_, _<_}
-use native.Mathlib.Omega.{arith}
+use Prim.Native.Nat.{ℕ, _+_, _-_}
 use Rattle.std.specs.declared.option.Option.{Option}
 use Rattle.std.specs.declared.result.Result.the-variants.{Ok, Err}
-use Rattle.bounded.specs.Held.{Held, held, next-of, previous-of, forwarded, backed}
+use Rattle.bounded.specs.Held.{held, next-of, previous-of, forwarded, backed}
 use Rattle.tape.specs.declared.kinds.TapeRefusal.the-variants.{Edge}
 use Rattle.sparse.specs.declared.record.NonblankCell.{NonblankCell}
 use Rattle.sparse.specs.Records.{stands}
