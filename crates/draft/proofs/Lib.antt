@@ -1,0 +1,11 @@
+pub mod Minimum
+pub mod Parts
+pub mod Tells
+pub mod Keeps
+pub mod Trims
+pub mod Placing
+pub mod Within
+pub mod Outcome
+pub mod Spacing
+pub mod Sizes
+pub mod Counts
