@@ -21,7 +21,7 @@ returns-in-Break-codes c =
     let i = c .loop-i .i in
     let split : text ≡ take i text ++ (getD text i 0 ∷ drop (i + 1) text) = sym (take-append-drop i text) ∙ ap (λ l. take i text ++ l) (drop-more text i 0 (c .loop-i-test .taken)) in
     let none : codes-of text ≡ None = ap codes-of split ∙ codes-none (take i text) (getD text i 0) (drop (i + 1) text) (c .in-Break-codes .ensures tt) in
-    ap (mapped codes-in) (c .from-residual .ensures) ∙ sym (short text (c .if-text-gt-LONGEST-WORD .left) ∙ none)
+    ap (mapped codes-in) (c .from-residual .ensures) ∙ sym (short text (omega arith) ∙ none)
 
 pub loop-i-again : need.loop-i-again
 loop-i-again c =
@@ -47,7 +47,7 @@ returns c =
     let inside = c .loop-i .inv .1 .0 in
     let end : i ≡ length text = omega arith in
     let e = subst (λ j. codes-of (take j text) ≡ Some (take j codes)) end (c .loop-i .inv .1 .1) in
-    sym (short text (c .if-text-gt-LONGEST-WORD .left) ∙ ap codes-of (sym (take-all (length text) text (omega arith))) ∙ e)
+    sym (short text (omega arith) ∙ ap codes-of (sym (take-all (length text) text (omega arith))) ∙ e)
 
 pub ghost-result : need.ghost-result
 ghost-result c =
@@ -56,4 +56,4 @@ ghost-result c =
     let inside = c .loop-i .inv .1 .0 in
     let end : c .loop-i .i ≡ length text = omega arith in
     let e = subst (λ j. codes-of (take j text) ≡ Some (take j codes)) end (c .loop-i .inv .1 .1) in
-    (c .if-text-gt-LONGEST-WORD .left, (codes-fit (take (length text) text) (take (length text) codes) e, tt))
+    (omega arith, (codes-fit (take (length text) text) (take (length text) codes) e, tt))
