@@ -1,0 +1,4 @@
+//! The program place: an alphabet and numbered blocks, as a source says them.
+
+pub mod blocks;
+pub mod program;
