@@ -12,7 +12,7 @@ loop-i-preserved g c =
     let i = c.loop-i.i in
     let s = c.loop-i.bytes in
     let lt : i < length s = omega arith in
-    let v : c.shown-byte.result ≡ shown_at m i = c.shown-byte.ensures ∙ ap shown (c.look.ensures ∙ ap (looked m) (omega (arith, ints))) in
+    let v : c.shown_byte.result ≡ shown_at m i = c.shown_byte.ensures ∙ ap shown (c.look.ensures ∙ ap (looked m) (omega (arith, ints))) in
     (length-set s i _ ∙ c.loop-i.invariant.0, λ k h. ap (λ x. get_or (set s i x) k 0) v ∙ fill_by_more (shown_at m) s i 0 lt c.loop-i.invariant.1 k h)
 
 pub returns : goal.returns

@@ -8,16 +8,16 @@ use Rattle.words.proofs.bytes.first_foreign.Goals as goal
 step : (source : Text) (p : ℕ) (r : Bool) → p < length source → r ≡ is_foreign (class (get_or source p 0)) → cond r (Some p) (foreign_from (p + 1) (drop (p + 1) source)) ≡ foreign_from p (drop p source)
 step source p r h e = ap (λ b. cond b (Some p) (foreign_from (p + 1) (drop (p + 1) source))) e ∙ sym (at_drop_more (foreign_from p) source p 0 h)
 
-pub returns-then-is-foreign : goal.returns-then-is-foreign
-returns-then-is-foreign c =
+pub returns-then-is_foreign : goal.returns-then-is_foreign
+returns-then-is_foreign c =
     let source = c.args.source.now in
     let p = c.loop-place.place in
-    let e : Some p ≡ first_foreign source = step source p _ c.loop-place-test.true (c.if-is-foreign.ensures ∙ ap is_foreign c.classify.ensures) ∙ c.loop-place.invariant in
+    let e : Some p ≡ first_foreign source = step source p _ c.loop-place-test.true (c.if-is_foreign.ensures ∙ ap is_foreign c.classify.ensures) ∙ c.loop-place.invariant in
     record { place = e; law = subst (FirstForeign source) (sym e) (first source) }
 
 pub loop-place-preserved : goal.loop-place-preserved
 loop-place-preserved c =
-    step c.args.source.now c.loop-place.place _ c.loop-place-test.true (c.if-is-foreign.ensures ∙ ap is_foreign c.classify.ensures) ∙ c.loop-place.invariant
+    step c.args.source.now c.loop-place.place _ c.loop-place-test.true (c.if-is_foreign.ensures ∙ ap is_foreign c.classify.ensures) ∙ c.loop-place.invariant
 
 pub returns : goal.returns
 returns c =

@@ -2,19 +2,22 @@ use Rattle.std.proofs.Common.{refl, arith, rules}
 use Rattle.bounded.proofs.Gap.{next_in, delete_out}
 use Rattle.bounded.proofs.list.BoundedList.delete.Goals as goal
 
-pub overflow-add-self : goal.overflow-add-self
-overflow-add-self g c =
+pub overflow_add-self : goal.overflow_add-self
+overflow_add-self g c =
     let l = c.args.self.now in
-    let lt = next_in l.records.now l.back c.in-ok-next.next c.in-ok-next.ensures in
+    let lt = next_in l.records.now l.back c.in_ok-next.next c.in_ok-next.ensures in
     search rules
 
-pub invariant-of-self : goal.invariant-of-self
-invariant-of-self g c =
+pub invariant_of-self : goal.invariant_of-self
+invariant_of-self g c =
     let l = c.args.self.now in
-    let lt = next_in l.records.now l.back c.in-ok-next.next c.in-ok-next.ensures in
-    (omega (arith, l.apart), (omega arith, tt))
+    let lt = next_in l.records.now l.back c.in_ok-next.next c.in_ok-next.ensures in
+    record {
+      apart = omega (arith, l.apart);
+      inside = omega arith;
+    }
 
 pub returns : goal.returns
 returns g c =
     let l = c.args.self.now in
-    record { answer = c.in-ok-next.ensures; held = delete_out l.records.now l.front l.back; lent = refl }
+    record { answer = c.in_ok-next.ensures; held = delete_out l.records.now l.front l.back; lent = refl }

@@ -5,31 +5,34 @@ use Rattle.bounded.proofs.list.BoundedList.forward.Goals as goal
 pub bounds-self-to : goal.bounds-self-to
 bounds-self-to g c =
     let l = c.args.self.now in
-    let lt = next_in l.records.now l.back c.in-ok-next.next c.in-ok-next.ensures in
+    let lt = next_in l.records.now l.back c.in_ok-next.next c.in_ok-next.ensures in
     omega (arith, l.apart)
 
-pub overflow-add-self : goal.overflow-add-self
-overflow-add-self g c =
+pub overflow_add-self : goal.overflow_add-self
+overflow_add-self g c =
     let l = c.args.self.now in
     let apart = l.apart in
-    let lt = next_in l.records.now l.back c.in-ok-next.next c.in-ok-next.ensures in
+    let lt = next_in l.records.now l.back c.in_ok-next.next c.in_ok-next.ensures in
     search rules
 
-pub overflow-add-self-2 : goal.overflow-add-self-2
-overflow-add-self-2 g c =
+pub overflow_add-self-2 : goal.overflow_add-self-2
+overflow_add-self-2 g c =
     let l = c.args.self.now in
-    let lt = next_in l.records.now l.back c.in-ok-next.next c.in-ok-next.ensures in
+    let lt = next_in l.records.now l.back c.in_ok-next.next c.in_ok-next.ensures in
     search rules
 
-pub invariant-of-self : goal.invariant-of-self
-invariant-of-self g c =
+pub invariant_of-self : goal.invariant_of-self
+invariant_of-self g c =
     let l = c.args.self.now in
-    let lt = next_in l.records.now l.back c.in-ok-next.next c.in-ok-next.ensures in
-    (omega (arith, l.apart), (simp length-set (omega arith), tt))
+    let lt = next_in l.records.now l.back c.in_ok-next.next c.in_ok-next.ensures in
+    record {
+      apart = omega (arith, l.apart);
+      inside = simp length-set (omega arith);
+    }
 
 pub returns : goal.returns
 returns g c =
     let l = c.args.self.now in
     let xs = l.records.now in
-    let next = c.in-ok-next.ensures in
-    record { answer = next; held = forward_on xs l.front l.back c.in-ok-next.next l.apart (next_in xs l.back c.in-ok-next.next next) next; lent = refl }
+    let next = c.in_ok-next.ensures in
+    record { answer = next; held = forward_on xs l.front l.back c.in_ok-next.next l.apart (next_in xs l.back c.in_ok-next.next next) next; lent = refl }

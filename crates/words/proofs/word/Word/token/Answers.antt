@@ -7,18 +7,18 @@ pub returns-in-Some : goal.returns-in-Some
 unfolding kind
 returns-in-Some c = record { kind = search rules; law = only_kind c.args.self.text.now; text = search rules }
 
-pub returns-in-Some-keyword-of : goal.returns-in-Some-keyword-of
+pub returns-in-Some-keyword_of : goal.returns-in-Some-keyword_of
 unfolding kind
-returns-in-Some-keyword-of c = record { kind = search rules; law = only_kind c.args.self.text.now; text = search rules }
+returns-in-Some-keyword_of c = record { kind = search rules; law = only_kind c.args.self.text.now; text = search rules }
 
-pub returns-in-Some-mark-of : goal.returns-in-Some-mark-of
+pub returns-in-Some-mark_of : goal.returns-in-Some-mark_of
 unfolding kind
-returns-in-Some-mark-of c = record { kind = search rules; law = only_kind c.args.self.text.now; text = search rules }
+returns-in-Some-mark_of c = record { kind = search rules; law = only_kind c.args.self.text.now; text = search rules }
 
-pub returns-then-is-name : goal.returns-then-is-name
+pub returns-then-is_name : goal.returns-then-is_name
 unfolding kind
-returns-then-is-name c = record { kind = search rules; law = only_kind c.args.self.text.now; text = search rules }
+returns-then-is_name c = record { kind = search rules; law = only_kind c.args.self.text.now; text = search rules }
 
-pub returns-else-is-name : goal.returns-else-is-name
+pub returns-else-is_name : goal.returns-else-is_name
 unfolding kind
-returns-else-is-name c = record { kind = search rules; law = only_kind c.args.self.text.now; text = search rules }
+returns-else-is_name c = record { kind = search rules; law = only_kind c.args.self.text.now; text = search rules }

@@ -5,11 +5,15 @@ use Rattle.tape.specs.Dense.{of_cells}
 use Rattle.tape.proofs.Cells.{codes_set, blank_room}
 use Rattle.tape.proofs.dense.operations.DenseTapeTape.put.Goals as goal
 
-pub invariant-of-self : goal.invariant-of-self
-invariant-of-self c =
+pub invariant_of-self : goal.invariant_of-self
+invariant_of-self c =
     let t = c.args.self.now in
     let fits = codes_set t.cells.now t.head c.args.code (omega arith) t.codes in
-    (simp length-set (omega arith), (simp length-set (omega arith), (fits, tt)))
+    record {
+      here = simp length-set (omega arith);
+      most = simp length-set (omega arith);
+      codes = fits;
+    }
 
 pub returns : goal.returns
 returns c =
