@@ -29,12 +29,9 @@ pub record Kept (n h : ℕ) (l : Held NonblankCell) : Type 0 where
   pub left : rising 0 h l.before ≡ true
   pub right : rising h n l.after ≡ true
 
--- the same as the fields of a tape have it
-abbrev pub Fields : ℕ → ℕ → Held NonblankCell → Type 0
-Fields n h l = (h < n) × ((n ≤ 4096) × ((l.capacity ≤ n) × ((rising 0 h l.before ≡ true) × ((rising h n l.after ≡ true) × Unit {0}))))
-
-pub fields : {n h : ℕ} {l l' : Held NonblankCell} → l' ≡ l → Kept n h l → Fields n h l'
-fields {n} {h} e k = subst (Fields n h) (sym e) (k.here, (k.most, (k.room, (k.left, (k.right, tt)))))
+-- the same of a list that is equal
+pub kept_by : {n h : ℕ} {l l' : Held NonblankCell} → l' ≡ l → Kept n h l → Kept n h l'
+kept_by {n} {h} e k = subst (Kept n h) (sym e) k
 
 pub kept_of : (t : SparseTape) → Kept t.size t.head (held t.records.now)
 kept_of t = record { here = t.here; most = t.most; room = t.room; left = t.left; right = t.right }

@@ -17,10 +17,10 @@ wide a b rs le h = rises_test 0 4096 rs (rising_high 0 b 4096 rs le (rising_low 
 plain : (n h : ℕ) (d : ℤ) (o : Option ℕ) → SFits w32 d → o ≡ reached n (pos h +ℤ to_z w32 (of_z w32 d)) → o ≡ reached n (pos h +ℤ d)
 plain n h d o fits e = e ∙ ap (λ z. reached n (pos h +ℤ z)) (to_z-of_z w32 d fits)
 
-pub returns-in-err-cell : goal.returns-in-err-cell
-returns-in-err-cell c =
+pub returns-in_err-cell : goal.returns-in_err-cell
+returns-in_err-cell c =
     let t = c.args.self.now in
-    c.from-residual.ensures ∙ sym (look_none t.size (all (held t.records.now)) (pos t.head +ℤ c.args.distance) (plain t.size t.head c.args.distance _ c.ranges.distance c.in-err-cell.ensures))
+    c.from_residual.ensures ∙ sym (look_none t.size (all (held t.records.now)) (pos t.head +ℤ c.args.distance) (plain t.size t.head c.args.distance _ c.ranges.distance c.in_err-cell.ensures))
 
 pub find-requires : goal.find-requires
 find-requires c =
@@ -38,18 +38,18 @@ pub returns-then-cell-self : goal.returns-then-cell-self
 returns-then-cell-self c =
     let t = c.args.self.now in
     let l = held t.records.now in
-    let k = c.in-ok-cell.cell in
+    let k = c.in_ok-cell.cell in
     let found : c.find.result ≡ code_at (all l) k =
     c.find.ensures ∙ ap (λ rs. code_at rs k) c.before-then-cell-self.ensures
     ∙ sym (code_left t.head t.size k l.before l.after (rises t.head t.size l.after t.right) c.if-cell-self.true) in
-    ap Some found ∙ sym (look_some t.size (all l) (pos t.head +ℤ c.args.distance) k (plain t.size t.head c.args.distance _ c.ranges.distance c.in-ok-cell.ensures))
+    ap Some found ∙ sym (look_some t.size (all l) (pos t.head +ℤ c.args.distance) k (plain t.size t.head c.args.distance _ c.ranges.distance c.in_ok-cell.ensures))
 
 pub returns-else-cell-self : goal.returns-else-cell-self
 returns-else-cell-self c =
     let t = c.args.self.now in
     let l = held t.records.now in
-    let k = c.in-ok-cell.cell in
+    let k = c.in_ok-cell.cell in
     let found : c.find-else-cell-self.result ≡ code_at (all l) k =
     c.find-else-cell-self.ensures ∙ ap (λ rs. code_at rs k) c.after.ensures
     ∙ sym (code_right 0 t.head k l.before l.after (rises 0 t.head l.before t.left) c.if-cell-self.false) in
-    ap Some found ∙ sym (look_some t.size (all l) (pos t.head +ℤ c.args.distance) k (plain t.size t.head c.args.distance _ c.ranges.distance c.in-ok-cell.ensures))
+    ap Some found ∙ sym (look_some t.size (all l) (pos t.head +ℤ c.args.distance) k (plain t.size t.head c.args.distance _ c.ranges.distance c.in_ok-cell.ensures))
