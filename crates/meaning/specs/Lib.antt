@@ -6,6 +6,7 @@ pub mod Outcome
 pub mod Rules
 pub mod Tables
 pub mod Runs
+pub mod Equal
 pub mod Endless
 pub mod Language
 pub mod TuringMachine

@@ -1,7 +1,6 @@
 ghost use Rattle.std.specs.Prelude.{◌≡◌, Decides};
-ghost use Rattle.std.specs.Cmp.Rules.{comparing};
-ghost use Rattle.std.proofs.Common.{rules};
-ghost use Rattle.std.specs.Cmp as Keys;
+ghost use Rattle.std.specs.Cmp.{partial_equiv_from_equiv};
+ghost use Rattle.meaning.specs.Equal.{same_answer, same_answer_laws};
 
 use crate::refusals::Refusal;
 use tape::kinds::Direction;
@@ -47,7 +46,7 @@ pub struct Report {
 }
 
 // The answer to a call.
-#[derive(Clone, Copy, Eq, Debug, Drop)]
+#[derive(Clone, Copy, Debug, Drop)]
 pub enum Answer {
     // of a step: the status after it
     Stepped(Status),
@@ -62,13 +61,16 @@ pub enum Answer {
     Shown([u8; 15]),
 }
 
-// A derived `==` would say nothing of the bytes.
+// By hand, so that a bug in it can be planted: a derived `==` decides the same.
 impl PartialEq for Answer {
-    ghost equals = { λ x y r. Decides r (x ≡ y) };
+    ghost eq = { same_answer };
 
-    ghost laws = { Keys.partial_equiv_from_equiv (Prim.search (comparing, rules)) };
+    ghost laws = { partial_equiv_from_equiv same_answer_laws };
 
-    fn eq(&self, other: &Answer) -> bool {
+    fn eq(&self, other: &Answer) -> bool
+        ensures value { result ≡ same_answer self.now other.now }
+        ensures equal { Decides result (self.now ≡ other.now) }
+    {
         match *self {
             Answer::Stepped(a) => match *other {
                 Answer::Stepped(b) => a == b,
@@ -96,4 +98,8 @@ impl PartialEq for Answer {
             },
         }
     }
+}
+
+impl Eq for Answer {
+    ghost laws = { same_answer_laws };
 }
