@@ -1,9 +1,2 @@
 pub mod Actions
 pub mod Ranged
-pub mod ArmSteps
-pub mod Whole
-pub mod Building
-pub mod Written
-pub mod Pushed
-pub mod Fitting
-pub mod Accepted

@@ -1,11 +1,15 @@
 -- The ranges that every stored program keeps.
-use Rattle.std.specs.Prelude.{◌≡◌, ℕ, ◌≤◌, true, false, List, length}
+use Rattle.std.specs.Prelude.{◌≡◌, ℕ, ◌≤◌, true, false, List, map, length}
 use Rattle.meaning.specs.Codes.{different, columns}
 use Rattle.meaning.specs.Blocks.{Basic, Kind, basic, switch, Compiled}
 use Rattle.meaning.specs.Faults.{too_many}
 use Rattle.meaning.specs.Tables.{Each}
-use Rattle.program.specs.Store.{covers, basic_fits, arm_codes}
+use Rattle.program.specs.Store.{covers, basic_fits}
 use Rattle.program.specs.declared.blocks.Shape.TheVariants.{Switch}
+
+-- the symbols of arms
+abbrev pub arm_codes : List (ℕ × Basic ℕ) → List ℕ
+arm_codes arms = map (λ a. a.0) arms
 
 -- a switch has exactly one arm for each column; every basic block writes a symbol of the columns, if anything, and leads to one of n numbers, if to any
 abbrev pub KindWithin : List ℕ → ℕ → Kind ℕ → Type 0

@@ -4,17 +4,17 @@ use Rattle.std.proofs.Common.{sym, ap, ◌∙◌, inl, inr, arith}
 use Rattle.std.proofs.lemmas.Nat.{mul-add-lt}
 use Rattle.std.proofs.lemmas.List.FromFn.{get_or-map-range_with_len}
 use Rattle.std.proofs.lemmas.List.{get_or-drop}
-use Rattle.std.proofs.lemmas.Bool.{and_parts, cases_eq, cond_both, eqb-true, false≢true}
+use Rattle.std.proofs.lemmas.Bool.{and_parts, cases_eq, eqb-true, false≢true}
 use Rattle.meaning.specs.Codes.{member, position}
-use Rattle.meaning.specs.Blocks.{Basic, Kind, basic, switch}
+use Rattle.meaning.specs.Blocks.{basic}
 use Rattle.meaning.specs.Rules.{nothing, arm, current, kind_at}
 use Rattle.program.specs.declared.blocks.Basic.{Basic as Slot}
 use Rattle.program.specs.declared.blocks.Shape.{Shape}
 use Rattle.program.specs.declared.blocks.Shape.TheVariants.{Single, Switch}
-use Rattle.program.specs.Store.{basic_of, unused, arms_of, kind_of, row_symbols, kind_in, kinds_of, all_among, covers, all_cover, place_in, basic_fits, arms_fit, arm_codes, switch_fits, kind_fits, all_fit}
+use Rattle.program.specs.Store.{basic_of, unused, arms_of, kind_of, row_symbols, kind_in, kinds_of, all_among, covers, all_cover, place_in, basic_fits, all_fit}
 
 -- a slot of a row
-place_most : (s : Shape) (column : ℕ) → place_in s column ≤ column
+pub place_most : (s : Shape) (column : ℕ) → place_in s column ≤ column
 place_most Single column = omega arith
 place_most Switch column = omega arith
 
@@ -68,21 +68,8 @@ current_at cols shapes order slots n q c h a m =
     ∙ current_of cols s (row_symbols cols order q) (drop (q * length cols) slots) c m (covers_at cols shapes order n q h a)
     ∙ ap basic_of (get_or-drop (q * length cols) slots (place_in s (position c cols)) unused)
 
--- what holds of all blocks holds of each, and of what it gives at a symbol
-kind_there : (cols : List ℕ) (n : ℕ) (ks : List (Kind ℕ)) (q : ℕ) → all_fit cols n ks ≡ true → kind_fits cols n (kind_at ks q) ≡ true
-kind_there cols n [] q a = refl
-kind_there cols n (k ∷ ks) zero a = (and_parts (kind_fits cols n k) (all_fit cols n ks) a).0
-kind_there cols n (k ∷ ks) (suc q) a = kind_there cols n ks q (and_parts (kind_fits cols n k) (all_fit cols n ks) a).1
-
-arm_there : (cols : List ℕ) (n : ℕ) (arms : List (ℕ × Basic ℕ)) (c : ℕ) → arms_fit cols n arms ≡ true → basic_fits cols n (arm arms c) ≡ true
-arm_there cols n [] c a = refl
-arm_there cols n (x ∷ arms) c a =
-    let p = and_parts (basic_fits cols n x.1) (arms_fit cols n arms) a in
-    cond_both (c == x.0) x.1 (arm arms c) (λ b. basic_fits cols n b ≡ true) (λ _. p.0) (λ _. arm_there cols n arms c p.1)
-
-current_there : (cols : List ℕ) (n : ℕ) (k : Kind ℕ) (c : ℕ) → kind_fits cols n k ≡ true → basic_fits cols n (current k c) ≡ true
-current_there cols n (basic b) c f = f
-current_there cols n (switch arms) c f = arm_there cols n arms c (and_parts (switch_fits cols (arm_codes arms)) (arms_fit cols n arms) f).1
-
-pub fits_at : (cols : List ℕ) (n : ℕ) (ks : List (Kind ℕ)) (q c : ℕ) → all_fit cols n ks ≡ true → basic_fits cols n (current (kind_at ks q) c) ≡ true
-fits_at cols n ks q c a = current_there cols n (kind_at ks q) c (kind_there cols n ks q a)
+-- what holds of all slots holds of each
+pub fits_at : (cols : List ℕ) (n : ℕ) (slots : List Slot) (i : ℕ) (d : Slot) → i < length slots → all_fit cols n slots ≡ true → basic_fits cols n (basic_of (slice_index_or slots i d)) ≡ true
+fits_at cols n [] i d h a = absurd (omega arith)
+fits_at cols n (s ∷ slots) zero d h a = (and_parts (basic_fits cols n (basic_of s)) (all_fit cols n slots) a).0
+fits_at cols n (s ∷ slots) (suc i) d h a = fits_at cols n slots i d (omega arith) (and_parts (basic_fits cols n (basic_of s)) (all_fit cols n slots) a).1

@@ -1,5 +1,5 @@
 -- What the parts of a stored program mean, and their ranges.
-use Rattle.std.specs.Prelude.{ℕ, zero, suc, ◌*◌, Bool, true, ◌&&◌, List, [], ◌∷◌, map, length, take, drop, Some, None, Option, ◌==◌, nat_lt, slice_index_or}
+use Rattle.std.specs.Prelude.{ℕ, zero, suc, ◌*◌, Bool, true, ◌&&◌, List, [], ◌∷◌, map, length, take, drop, Some, None, Option, nat_lt, slice_index_or}
 use Rattle.std.specs.List.{range_with_len}
 use Rattle.meaning.specs.Codes.{member, position}
 use Rattle.meaning.specs.Blocks.{Then, again, accepting, rejecting, jump, next, end, Basic, Kind, basic, switch}
@@ -86,25 +86,7 @@ then_fits n end = true
 abbrev pub basic_fits : List ℕ → ℕ → Basic ℕ → Bool
 basic_fits cols n b = write_fits cols b.write && then_fits n b.then
 
--- so do the basic blocks of these arms
-abbrev pub arms_fit : List ℕ → ℕ → List (ℕ × Basic ℕ) → Bool
-arms_fit cols n [] = true
-arms_fit cols n (a ∷ arms) = basic_fits cols n a.1 && arms_fit cols n arms
-
--- the symbols of arms
-abbrev pub arm_codes : List (ℕ × Basic ℕ) → List ℕ
-arm_codes arms = map (λ a. a.0) arms
-
--- these symbols are the columns, each exactly once
-abbrev pub switch_fits : List ℕ → List ℕ → Bool
-switch_fits cols symbols = length symbols == length cols && covers cols Switch symbols
-
--- a block of a program with n numbers
-abbrev pub kind_fits : List ℕ → ℕ → Kind ℕ → Bool
-kind_fits cols n (basic b) = basic_fits cols n b
-kind_fits cols n (switch arms) = switch_fits cols (arm_codes arms) && arms_fit cols n arms
-
--- all blocks of a program with n numbers
-abbrev pub all_fit : List ℕ → ℕ → List (Kind ℕ) → Bool
+-- so do the basic blocks of these slots
+abbrev pub all_fit : List ℕ → ℕ → List Slot → Bool
 all_fit cols n [] = true
-all_fit cols n (k ∷ ks) = kind_fits cols n k && all_fit cols n ks
+all_fit cols n (s ∷ slots) = basic_fits cols n (basic_of s) && all_fit cols n slots

@@ -1,5 +1,5 @@
 // A program as it is stored.
-ghost use Rattle.std.specs.Prelude.{◌≡◌, ◌*◌, ◌≤◌, true, length};
+ghost use Rattle.std.specs.Prelude.{◌≡◌, ◌*◌, ◌≤◌, true, length, take};
 ghost use Rattle.meaning.specs.Codes.{columns};
 ghost use Rattle.alphabet.specs.Alphabets.{letters_of};
 ghost use Rattle.program.specs.Store.{kinds_of, all_cover, all_fit};
@@ -13,13 +13,13 @@ pub mod operations;
 // A basic block has the first slot of its row. 13,740 bytes.
 #[derive(Drop)]
 pub struct Program {
-    pub(crate) alphabet: Alphabet,
+    alphabet: Alphabet,
     // how many numbers there are
-    pub(crate) count: u32,
-    pub(crate) shapes: [Shape; 128],
+    count: u32,
+    shapes: [Shape; 128],
     // a row for each number too: the symbols of a switch in order of writing
-    pub(crate) order: [u8; 1024],
-    pub(crate) slots: [Basic; 1024],
+    order: [u8; 1024],
+    slots: [Basic; 1024],
     ghost listed: { length order ≡ 1024 },
     ghost whole: { length slots ≡ 1024 },
     ghost numbered: { 1 ≤ count },
@@ -27,5 +27,5 @@ pub struct Program {
     ghost room: { count * length (columns (letters_of alphabet)) ≤ 1024 },
     ghost counted: { length (kinds_of (columns (letters_of alphabet)) shapes order slots count) ≡ count },
     ghost covered: { all_cover (columns (letters_of alphabet)) shapes order count ≡ true },
-    ghost fit: { all_fit (columns (letters_of alphabet)) count (kinds_of (columns (letters_of alphabet)) shapes order slots count) ≡ true },
+    ghost fit: { all_fit (columns (letters_of alphabet)) count (take (count * length (columns (letters_of alphabet))) slots) ≡ true },
 }

@@ -22,34 +22,34 @@ loop-i-preserved g c =
     let cs = c.args.codes.now in
     let m = g.T.Tape.meaning c.args.tape.now in
     let k = g.T.Tape.meaning c.loop-i.tape in
-    let s = c.in-ok-shift.ensures in
-    let p = c.in-ok-put.ensures in (
+    let s = c.in_ok-shift.ensures in
+    let p = c.in_ok-put.ensures in (
       from cs c.loop-i.i m k (omega arith) (omega arith) c.loop-i.invariant.0
           ∙ one_done (get_or cs (c.loop-i.i - 1) 0) k (g.T.Tape.meaning c.shift.new.self) (g.T.Tape.meaning c.put.new.self) _ _ s.answer s.after p.answer p.after,
       p.lent ∙ s.lent ∙ c.loop-i.invariant.1,
     )
 
-pub returns-in-err-shift : goal.returns-in-err-shift
-returns-in-err-shift g c =
+pub returns-in_err-shift : goal.returns-in_err-shift
+returns-in_err-shift g c =
     let cs = c.args.codes.now in
     let m = g.T.Tape.meaning c.args.tape.now in
     let k = g.T.Tape.meaning c.loop-i.tape in
-    let s = c.in-err-shift.ensures in
-    let r = err_from_is_err_and c.from-residual.result c.from-residual.ensures.1 in
-    let x = c.in-err-shift.field-0.0 in
+    let s = c.in_err-shift.ensures in
+    let r = err_from_is_err_and c.from_residual.result c.from_residual.ensures.1 in
+    let x = c.in_err-shift.field-0.0 in
     let e : laid cs m ≡ of (Err x) (g.T.Tape.meaning c.shift.new.self) =
     refused cs (c.loop-i.i - 1) m _ x (from cs c.loop-i.i m k (omega arith) (omega arith) c.loop-i.invariant.0 ∙ no_shift (get_or cs (c.loop-i.i - 1) 0) k _ x s.answer s.after) in
     record { answer = r.1 ∙ ap Err r.2 ∙ sym (ap (λ l. l.answer) e); after = sym (ap (λ l. l.tape) e); lent = s.lent ∙ c.loop-i.invariant.1 }
 
-pub returns-in-err-put : goal.returns-in-err-put
-returns-in-err-put g c =
+pub returns-in_err-put : goal.returns-in_err-put
+returns-in_err-put g c =
     let cs = c.args.codes.now in
     let m = g.T.Tape.meaning c.args.tape.now in
     let k = g.T.Tape.meaning c.loop-i.tape in
-    let s = c.in-ok-shift.ensures in
-    let p = c.in-err-put.ensures in
-    let r = err_from_is_err_and c.from-residual-in-err-put.result c.from-residual-in-err-put.ensures.1 in
-    let x = c.in-err-put.field-0.0 in
+    let s = c.in_ok-shift.ensures in
+    let p = c.in_err-put.ensures in
+    let r = err_from_is_err_and c.from_residual-in_err-put.result c.from_residual-in_err-put.ensures.1 in
+    let x = c.in_err-put.field-0.0 in
     let e : laid cs m ≡ of (Err x) (g.T.Tape.meaning c.put.new.self) =
     refused cs (c.loop-i.i - 1) m _ x (from cs c.loop-i.i m k (omega arith) (omega arith) c.loop-i.invariant.0
     ∙ no_put (get_or cs (c.loop-i.i - 1) 0) k (g.T.Tape.meaning c.shift.new.self) _ _ x s.answer s.after p.answer p.after) in

@@ -16,8 +16,8 @@ returns-then-number-lt10 t c =
     let one = ap length digit in
     record { end = c.append.ensures.end ∙ omega arith; after = λ text buffer e a. c.append.ensures.after text buffer e a ∙ ap (λ l. begun (text ++ l) buffer) (sym digit) }
 
-pub append-decimal-front-requires : goal.append-decimal-front-requires
-append-decimal-front-requires t c = (omega (arith, c.decreases), let one = one_more c.args.number c.if-number-lt10.false c.ranges.number.fits in omega (arith, c.requires))
+pub append_decimal-front-requires : goal.append_decimal-front-requires
+append_decimal-front-requires t c = (omega (arith, c.decreases), let one = one_more c.args.number c.if-number-lt10.false c.ranges.number.fits in omega (arith, c.requires))
 
 pub append-requires-2 : goal.append-requires-2
 append-requires-2 t c = let one = one_more c.args.number c.if-number-lt10.false c.ranges.number.fits in omega (arith, c.requires)
@@ -30,7 +30,7 @@ returns t c =
     record {
       end = omega arith;
       after = λ text buffer e a.
-          let front = c.append-decimal-front.ensures.after text buffer e a in
+          let front = c.append_decimal-front.ensures.after text buffer e a in
           let joined = length-append text (decimal (n / 10)) in
           c.append-2.ensures.after (text ++ decimal (n / 10)) buffer front (omega arith)
           ∙ ap (λ l. begun l buffer) (append_assoc text (decimal (n / 10)) ((48 + n % 10) ∷ []) ∙ ap (λ l. text ++ l) (sym step));

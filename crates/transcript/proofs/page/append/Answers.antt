@@ -22,5 +22,5 @@ returns c =
     let k : at + length bytes - at ≡ length bytes = omega arith in
     record {
       end = refl;
-      after = λ text buffer e a. ap (put_mid at (at + length bytes - at) c.args.buffer.now) c.copy-from-slice.ensures.after ∙ appended c.args.buffer.now text buffer bytes at (at + length bytes - at) e a k;
+      after = λ text buffer e a. ap (put_mid at (at + length bytes - at) c.args.buffer.now) c.copy_from_slice.ensures.after ∙ appended c.args.buffer.now text buffer bytes at (at + length bytes - at) e a k;
     }

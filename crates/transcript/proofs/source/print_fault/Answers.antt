@@ -13,26 +13,26 @@ of_byte n small = length-decimal-le 3 n (omega arith) (omega arith) (omega arith
 of_place : (n : ℕ) → n < 2 ^ 64 → length (decimal n) ≤ 20
 of_place n small = length-decimal-le 20 n (omega arith) (omega arith) small
 
-pub append-decimal-at-requires : goal.append-decimal-at-requires
-append-decimal-at-requires c = omega (arith, of_byte c.number.result c.number.type-inv)
+pub append_decimal-at-requires : goal.append_decimal-at-requires
+append_decimal-at-requires c = omega (arith, of_byte c.number.result c.number.type_inv)
 
 pub append-at-requires-2 : goal.append-at-requires-2
-append-at-requires-2 c = omega (arith, of_byte c.number.result c.number.type-inv)
+append-at-requires-2 c = omega (arith, of_byte c.number.result c.number.type_inv)
 
-pub append-decimal-at-requires-2 : goal.append-decimal-at-requires-2
-append-decimal-at-requires-2 c =
+pub append_decimal-at-requires-2 : goal.append_decimal-at-requires-2
+append_decimal-at-requires-2 c =
     let fits : Fits w64 c.args.fault.place = search rules in
-    omega (arith, of_byte c.number.result c.number.type-inv, of_place c.args.fault.place fits.fits)
+    omega (arith, of_byte c.number.result c.number.type_inv, of_place c.args.fault.place fits.fits)
 
 pub append-at-requires-3 : goal.append-at-requires-3
 append-at-requires-3 c =
     let fits : Fits w64 c.args.fault.place = search rules in
-    omega (arith, of_byte c.number.result c.number.type-inv, of_place c.args.fault.place fits.fits)
+    omega (arith, of_byte c.number.result c.number.type_inv, of_place c.args.fault.place fits.fits)
 
-pub slice-bounds-print-end : goal.slice-bounds-print-end
-slice-bounds-print-end c =
+pub slice_bounds-print-end : goal.slice_bounds-print-end
+slice_bounds-print-end c =
     let fits : Fits w64 c.args.fault.place = search rules in
-    let number = of_byte c.number.result c.number.type-inv in
+    let number = of_byte c.number.result c.number.type_inv in
     let place = of_place c.args.fault.place fits.fits in
     let within : c.append-at-3.result ≤ length c.append-at-3.new.buffer = omega arith in
     search rules
@@ -47,16 +47,16 @@ returns c =
     let a1 : c.append-at.result ≡ length t1 = c.append-at.ensures.end in
     let e1 = c.append-at.ensures.after [] empty refl refl in
     let t2 : List ℕ = t1 ++ number in
-    let a2 : c.append-decimal-at.result ≡ length t2 = longer c.append-at.result t1 number _ a1 c.append-decimal-at.ensures.end in
-    let e2 = c.append-decimal-at.ensures.after t1 empty e1 a1 in
+    let a2 : c.append_decimal-at.result ≡ length t2 = longer c.append-at.result t1 number _ a1 c.append_decimal-at.ensures.end in
+    let e2 = c.append_decimal-at.ensures.after t1 empty e1 a1 in
     let t3 : List ℕ = t2 ++ codes " at " in
-    let a3 : c.append-at-2.result ≡ length t3 = longer c.append-decimal-at.result t2 (codes " at ") _ a2 c.append-at-2.ensures.end in
+    let a3 : c.append-at-2.result ≡ length t3 = longer c.append_decimal-at.result t2 (codes " at ") _ a2 c.append-at-2.ensures.end in
     let e3 = c.append-at-2.ensures.after t2 empty e2 a2 in
     let t4 : List ℕ = t3 ++ place in
-    let a4 : c.append-decimal-at-2.result ≡ length t4 = longer c.append-at-2.result t3 place _ a3 c.append-decimal-at-2.ensures.end in
-    let e4 = c.append-decimal-at-2.ensures.after t3 empty e3 a3 in
+    let a4 : c.append_decimal-at-2.result ≡ length t4 = longer c.append-at-2.result t3 place _ a3 c.append_decimal-at-2.ensures.end in
+    let e4 = c.append_decimal-at-2.ensures.after t3 empty e3 a3 in
     let t5 : List ℕ = t4 ++ (10 ∷ []) in
-    let a5 : c.append-at-3.result ≡ length t5 = longer c.append-decimal-at-2.result t4 (10 ∷ []) _ a4 c.append-at-3.ensures.end in
+    let a5 : c.append-at-3.result ≡ length t5 = longer c.append_decimal-at-2.result t4 (10 ∷ []) _ a4 c.append-at-3.ensures.end in
     let e5 : c.append-at-3.new.buffer ≡ begun t5 empty = c.append-at-3.ensures.after t4 empty e4 a4 in
     let end : c.append-at-3.result - 0 ≡ length t5 = omega arith in
     let joined : t5 ≡ t1 ++ (number ++ (codes " at " ++ (place ++ (10 ∷ [])))) =

@@ -16,10 +16,10 @@ returns-in-Some c =
     let output = c.args.output.now in
     let is : fault_line c.in-Some.fault ≡ transcript_of c.args.input.now = by_fault c.args.input.now _ (Some c.in-Some.fault) c.in-Some.ensures.fault c.source_text.ensures in
     let same = ap length is in
-    let short = c.print-fault.ensures.short in
+    let short = c.print_fault.ensures.short in
     record {
-      answer = c.print-fault.ensures.answer ∙ ap (λ t. print_answer t output) is;
-      after = c.print-fault.ensures.after ∙ ap (λ t. print_after t output) is;
+      answer = c.print_fault.ensures.answer ∙ ap (λ t. print_answer t output) is;
+      after = c.print_fault.ensures.after ∙ ap (λ t. print_after t output) is;
       longest = omega arith;
     }
 
@@ -30,9 +30,9 @@ by_word input source text w e f g h = ap word_printed (g ∙ ap read_word h) ∙
 pub returns-in-Some-read : goal.returns-in-Some-read
 returns-in-Some-read c =
     let output = c.args.output.now in
-    let is : c.lines-of.result ≡ transcript_of c.args.input.now =
-    c.lines-of.ensures ∙ by_word c.args.input.now _ _ (Some _) c.in-default.ensures.fault c.source_text.ensures c.in-Some-read.ensures c.word_text.ensures in
-    let long : length c.lines-of.result ≡ 45 = ap length c.lines-of.ensures in
+    let is : c.lines_of.result ≡ transcript_of c.args.input.now =
+    c.lines_of.ensures ∙ by_word c.args.input.now _ _ (Some _) c.in_default.ensures.fault c.source_text.ensures c.in-Some-read.ensures c.word_text.ensures in
+    let long : length c.lines_of.result ≡ 45 = ap length c.lines_of.ensures in
     let same = ap length is in
     record {
       answer = c.print.ensures.answer ∙ ap (λ t. print_answer t output) is;
@@ -43,7 +43,7 @@ returns-in-Some-read c =
 pub returns-in-None : goal.returns-in-None
 returns-in-None c =
     let output = c.args.output.now in
-    let is : word_printed None ≡ transcript_of c.args.input.now = by_word c.args.input.now _ _ None c.in-default.ensures.fault c.source_text.ensures c.in-None.ensures c.word_text.ensures in
+    let is : word_printed None ≡ transcript_of c.args.input.now = by_word c.args.input.now _ _ None c.in_default.ensures.fault c.source_text.ensures c.in-None.ensures c.word_text.ensures in
     let same = ap length is in
     record {
       answer = c.print-in-None.ensures.answer ∙ ap (λ t. print_answer t output) is;

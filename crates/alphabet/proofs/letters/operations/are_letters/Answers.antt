@@ -8,17 +8,17 @@ use Rattle.alphabet.proofs.letters.operations.are_letters.Goals as goal
 whole : (cs : List ℕ) (i : ℕ) → (leb (get_or cs i 0) 36 && not (member (get_or cs i 0) (columns (take (length cs - (i + 1)) (drop (i + 1) cs))))) ≡ (leb (get_or cs i 0) 36 && not (member (get_or cs i 0) (columns (drop (i + 1) cs))))
 whole cs i = ap (λ l. leb (get_or cs i 0) 36 && not (member (get_or cs i 0) (columns l))) (take_rest cs (i + 1))
 
-pub returns-then-not-stands-apart : goal.returns-then-not-stands-apart
-returns-then-not-stands-apart c =
+pub returns-then-not-stands_apart : goal.returns-then-not-stands_apart
+returns-then-not-stands_apart c =
     let cs = c.args.codes.now in
     let i = c.loop-i.i in
-    sym (c.loop-i.invariant ∙ apart_more cs i c.loop-i-test.true ∙ ap (λ b. b && apart (drop (i + 1) cs)) (sym (c.stands-apart.ensures ∙ whole cs i) ∙ c.if-not-stands-apart.true))
+    sym (c.loop-i.invariant ∙ apart_more cs i c.loop-i-test.true ∙ ap (λ b. b && apart (drop (i + 1) cs)) (sym (c.stands_apart.ensures ∙ whole cs i) ∙ c.if-not-stands_apart.true))
 
 pub loop-i-preserved : goal.loop-i-preserved
 loop-i-preserved c =
     let cs = c.args.codes.now in
     let i = c.loop-i.i in
-    c.loop-i.invariant ∙ apart_more cs i c.loop-i-test.true ∙ ap (λ b. b && apart (drop (i + 1) cs)) (sym (c.stands-apart.ensures ∙ whole cs i) ∙ c.if-not-stands-apart.false)
+    c.loop-i.invariant ∙ apart_more cs i c.loop-i-test.true ∙ ap (λ b. b && apart (drop (i + 1) cs)) (sym (c.stands_apart.ensures ∙ whole cs i) ∙ c.if-not-stands_apart.false)
 
 pub returns : goal.returns
 returns c = sym (c.loop-i.invariant ∙ at_drop_all apart c.args.codes.now c.loop-i.i c.loop-i-test.false)

@@ -8,9 +8,9 @@ or_false : (a : Bool) → a || false ≡ a
 or_false true = refl
 or_false false = refl
 
-pub returns-then-code-gt-HIGHEST-CODE : goal.returns-then-code-gt-HIGHEST-CODE
-returns-then-code-gt-HIGHEST-CODE c =
-    sym (and_left _ _ (lt-leb c.args.code 36 c.if-code-gt-HIGHEST-CODE.true))
+pub returns-then-code-gt-HIGHEST_CODE : goal.returns-then-code-gt-HIGHEST_CODE
+returns-then-code-gt-HIGHEST_CODE c =
+    sym (and_left _ _ (lt-leb c.args.code 36 c.if-code-gt-HIGHEST_CODE.true))
 
 pub returns-then-code-eq0 : goal.returns-then-code-eq0
 returns-then-code-eq0 c =
@@ -23,4 +23,4 @@ returns c =
     let code = c.args.code in
     let rest = c.args.rest.now in
     let m : member code (columns rest) ≡ member code rest = member_columns rest code ∙ ap (λ b. member code rest || b) (ne_eqb code 0 c.if-code-eq0.false) ∙ or_false (member code rest) in
-    ap not (c.has.ensures ∙ sym m) ∙ sym (ap (λ b. b && not (member code (columns rest))) (le-leb code 36 c.if-code-gt-HIGHEST-CODE.false))
+    ap not (c.has.ensures ∙ sym m) ∙ sym (ap (λ b. b && not (member code (columns rest))) (le-leb code 36 c.if-code-gt-HIGHEST_CODE.false))

@@ -19,14 +19,14 @@ module _ (p : Program) (q column w i : ℕ) (wide : w ≡ length (columns_of p))
 pub bounds-self-number : goal.bounds-self-number
 bounds-self-number c = let z = c.args.self.now.few in omega (arith, c.requires.0)
 
-pub offset-bounds-self-number : goal.offset-bounds-self-number
-offset-bounds-self-number c =
-    let below = place_below c.args.self.now c.args.number c.args.column c.width.result c.slot-in-place.result c.width.ensures c.slot-in-place.ensures c.requires.0 c.requires.1 in
+pub offset_bounds-self-number : goal.offset_bounds-self-number
+offset_bounds-self-number c =
+    let below = place_below c.args.self.now c.args.number c.args.column c.width.result c.slot_in-place.result c.width.ensures c.slot_in-place.ensures c.requires.0 c.requires.1 in
     omega arith
 
 pub bounds-self-number-2 : goal.bounds-self-number-2
 bounds-self-number-2 c =
-    let below = place_below c.args.self.now c.args.number c.args.column c.width.result c.slot-in-place.result c.width.ensures c.slot-in-place.ensures c.requires.0 c.requires.1 in
+    let below = place_below c.args.self.now c.args.number c.args.column c.width.result c.slot_in-place.result c.width.ensures c.slot_in-place.ensures c.requires.0 c.requires.1 in
     omega arith
 
 pub returns : goal.returns
@@ -34,7 +34,7 @@ returns c =
     let p = c.args.self.now in
     let q = c.args.number in
     let w = c.width.result in
-    let i = c.slot-in-place.result in
-    let below = place_below p q c.args.column w i c.width.ensures c.slot-in-place.ensures c.requires.0 c.requires.1 in
+    let i = c.slot_in-place.result in
+    let below = place_below p q c.args.column w i c.width.ensures c.slot_in-place.ensures c.requires.0 c.requires.1 in
     let whole = p.whole in
-    get_or_default p.slots (q * w + i) _ unused (omega arith) ∙ ap (λ k. get_or p.slots k unused) (place_is p q c.args.column w i c.width.ensures c.slot-in-place.ensures)
+    get_or_default p.slots (q * w + i) _ unused (omega arith) ∙ ap (λ k. get_or p.slots k unused) (place_is p q c.args.column w i c.width.ensures c.slot_in-place.ensures)

@@ -1,4 +1,4 @@
-use Rattle.std.proofs.Common.{◌≡◌, ℕ, ◌*◌, true, List, [], ◌∷◌, length, get_or, drop, Some, sym, refl, ap, ◌∙◌, arith}
+use Rattle.std.proofs.Common.{◌≡◌, ℕ, ◌*◌, true, List, [], ◌∷◌, length, get_or, take, drop, Some, sym, refl, ap, ◌∙◌, arith}
 use Rattle.meaning.specs.Codes.{columns}
 use Rattle.meaning.specs.Blocks.{basic}
 use Rattle.alphabet.specs.Alphabets.{letters_of}
@@ -7,21 +7,29 @@ use Rattle.program.specs.Store.{basic_of, unused, all_fit}
 use Rattle.program.specs.Stored.{first_program}
 use Rattle.program.proofs.program.Program.new.Goals as goal
 
--- the one block fits, since its letters are known
-first_fits : (l : List ℕ) (slots : List Slot) → l ≡ 1 ∷ [] → all_fit (1 ∷ 0 ∷ []) 1 (basic (basic_of (get_or slots 0 unused)) ∷ []) ≡ true
-    → all_fit (columns l) 1 (basic (basic_of (get_or (drop (0 * length (columns l)) slots) 0 unused)) ∷ []) ≡ true
-first_fits l slots e f = ap (λ k. all_fit (columns k) 1 (basic (basic_of (get_or (drop (0 * length (columns k)) slots) 0 unused)) ∷ [])) e ∙ f
+-- the slots of the one row fit, since its letters are known
+row_fits : (l : List ℕ) (slots : List Slot) → l ≡ 1 ∷ [] → all_fit (1 ∷ 0 ∷ []) 1 (take 2 slots) ≡ true → all_fit (columns l) 1 (take (1 * length (columns l)) slots) ≡ true
+row_fits l slots e f = ap (λ k. all_fit (columns k) 1 (take (1 * length (columns k)) slots)) e ∙ f
 
 -- the program with one basic block, since its letters are known
 first : (l : List ℕ) (slots : List Slot) → l ≡ 1 ∷ [] → first_program ≡ record { letters = 1 ∷ []; blocks = basic (basic_of (get_or slots 0 unused)) ∷ [] }
     → first_program ≡ record { letters = l; blocks = basic (basic_of (get_or (drop (0 * length (columns l)) slots) 0 unused)) ∷ [] }
 first l slots e f = f ∙ ap (λ k. record { letters = k; blocks = basic (basic_of (get_or (drop (0 * length (columns k)) slots) 0 unused)) ∷ [] }) (sym e)
 
-pub invariant-of-result : goal.invariant-of-result
-invariant-of-result c =
+pub invariant_of-result : goal.invariant_of-result
+invariant_of-result c =
     let e = c.single.ensures in
     let w = ap (λ l. length (columns l)) e in
-    (refl, (refl, (omega arith, (omega arith, (omega arith, (refl, (refl, (first_fits _ _ e refl, tt))))))))
+    record {
+      listed = refl;
+      whole = refl;
+      numbered = omega arith;
+      few = omega arith;
+      room = omega arith;
+      counted = refl;
+      covered = refl;
+      fit = row_fits _ _ e refl;
+    }
 
 pub returns : goal.returns
 returns c =
