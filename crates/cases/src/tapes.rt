@@ -1,7 +1,7 @@
 // Both implementations of the tape at their borders.
 use bounded::list::BoundedList;
 use sparse::record::NonblankCell;
-use sparse::tape::SparseTape;
+use sparse::sparse::SparseTape;
 use std::process::Abort;
 use std::test::Fail;
 use tape::dense::DenseTape;

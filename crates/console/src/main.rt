@@ -1,4 +1,6 @@
 // The console: reads standard input whole, and prints its transcript.
+#![tactic(auto)]
+
 use std::io;
 use std::io::{Read, Write};
 use transcript::transcript::{LONGEST, transcript};

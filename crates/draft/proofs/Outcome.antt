@@ -1,6 +1,6 @@
 -- The places of words rise, and the outcome of a source is told by the draft by places.
 use Rattle.std.proofs.Common.{◌≡◌, ℕ, zero, suc, ◌+◌, ◌-◌, ◌<◌, ◌≤◌, cond, ◌⊎◌, List, [], ◌∷◌, length, Some, None, Option, sym, refl, ap, ◌∙◌, inl, inr, arith}
-use Rattle.std.specs.List.{AllByRecursion as All}
+use Rattle.std.specs.List.{AllByRecursion}
 use Rattle.words.specs.Bytes.{Text, first_foreign}
 use Rattle.words.specs.Words.{Word, words}
 use Rattle.words.specs.Stretches.{end, Stretch, Single, Longest, Apart}
@@ -27,13 +27,13 @@ has_byte source w (inl s) = omega (arith, s.one)
 has_byte source w (inr l) = omega (arith, l.nonempty)
 
 -- words from a place on stand from there on, and so does the end
-place_from : (source : Text) (ws : List Word) (p i : ℕ) → Apart p ws → All (Stretch source) ws → p ≤ length source → p ≤ place_of (length source) ws i
+place_from : (source : Text) (ws : List Word) (p i : ℕ) → Apart p ws → AllByRecursion (Stretch source) ws → p ≤ length source → p ≤ place_of (length source) ws i
 place_from source [] p i a s h = h
 place_from source (w ∷ ws) p zero a s h = a.0
 place_from source (w ∷ ws) p (suc i) a s h =
     let z = place_from source ws (end w) i a.1 s.1 s.0.within in omega (arith, a.0, z)
 
-places_higher : (source : Text) (ws : List Word) (p i j : ℕ) → Apart p ws → All (Stretch source) ws → All (λ w. Single source w ⊎ Longest source w) ws → i < j
+places_higher : (source : Text) (ws : List Word) (p i j : ℕ) → Apart p ws → AllByRecursion (Stretch source) ws → AllByRecursion (λ w. Single source w ⊎ Longest source w) ws → i < j
     → place_of (length source) ws i + (i - length ws) < place_of (length source) ws j + (j - length ws)
 places_higher source [] p i j a s k h = omega arith
 places_higher source (w ∷ ws) p zero zero a s k h = absurd (omega arith)
@@ -55,7 +55,7 @@ pub texts_length : (ws : List Word) → length (texts ws) ≡ length ws
 texts_length [] = refl
 texts_length (w ∷ ws) = ap suc (texts_length ws)
 
-among_under : (v : Violation) (fs : List Violation) (n : ℕ) → Among v fs → All (λ f. f.index < n) fs → v.index < n
+among_under : (v : Violation) (fs : List Violation) (n : ℕ) → Among v fs → AllByRecursion (λ f. f.index < n) fs → v.index < n
 among_under v [] n a u = absurd a
 among_under v (f ∷ fs) n (inl e) u = let z = ap (λ (x : Violation). x.index) e in omega (arith, u.0, z)
 among_under v (f ∷ fs) n (inr a) u = among_under v fs n a u.1

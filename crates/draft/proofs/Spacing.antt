@@ -1,6 +1,6 @@
 -- Words take their bytes, and one more between two words of letters and digits.
 use Rattle.std.proofs.Common.{◌≡◌, ℕ, zero, suc, ◌+◌, ◌-◌, ◌<◌, ◌≤◌, Bool, true, false, cond, ◌&&◌, ◌⊎◌, List, [], ◌∷◌, length, get_or, take, drop, sym, refl, ap, ◌∙◌, inl, inr, ⊎_elim, arith}
-use Rattle.std.specs.List.{AllByRecursion as All}
+use Rattle.std.specs.List.{AllByRecursion}
 use Rattle.std.proofs.lemmas.List.{get_or-take, get_or-drop, take_all}
 use Rattle.std.proofs.lemmas.Bool.{and_parts, cases_lt, false≢true}
 use Rattle.words.specs.Bytes.{Text, class}
@@ -48,12 +48,12 @@ spaced_pair source v w sv sw kv kw le = by (begins_part v.text && begins_part w.
             let i = end v - 1 in
             lw.before i (omega (arith, n, ge, le)) (lv.parts i (omega (arith, n), omega (arith, n)))
 
-spaced : (source : Text) (ws : List Word) (p : ℕ) → Apart p ws → All (Stretch source) ws → All (Either source) ws → Spaced ws
+spaced : (source : Text) (ws : List Word) (p : ℕ) → Apart p ws → AllByRecursion (Stretch source) ws → AllByRecursion (Either source) ws → Spaced ws
 spaced source [] p a s k = tt
 spaced source (w ∷ []) p a s k = tt
 spaced source (v ∷ w ∷ ws) p a s k = (spaced_pair source v w s.0 s.1.0 k.0 k.1.0 a.1.0, spaced source (w ∷ ws) (end v) a.1 s.1 k.1)
 
-takes : (source : Text) (ws : List Word) (p k : ℕ) → Apart p ws → All (Stretch source) ws → Spaced ws → p ≤ length source → p + least_bytes (take k (texts ws)) ≤ place_of (length source) ws k
+takes : (source : Text) (ws : List Word) (p k : ℕ) → Apart p ws → AllByRecursion (Stretch source) ws → Spaced ws → p ≤ length source → p + least_bytes (take k (texts ws)) ≤ place_of (length source) ws k
 takes source [] p zero a s g h = omega (arith, h)
 takes source [] p (suc k) a s g h = omega (arith, h)
 takes source (w ∷ ws) p zero a s g h = omega (arith, a.0)
@@ -64,7 +64,7 @@ takes source (v ∷ w ∷ ws) p (suc (suc k)) a s g h =
     let z = takes source (w ∷ ws) w.place (suc k) (let y : w.place ≤ w.place = omega arith in y, a.1.1) s.1 g.1 (let y = s.1.0.within in omega (arith, y)) in
     omega (arith, z, a.0, g.0)
 
-segments : (source : Text) (ws : List Word) (p i k : ℕ) → Apart p ws → All (Stretch source) ws → Spaced ws
+segments : (source : Text) (ws : List Word) (p i k : ℕ) → Apart p ws → AllByRecursion (Stretch source) ws → Spaced ws
     → place_of (length source) ws i + least_bytes (take k (drop i (texts ws))) ≤ place_of (length source) ws (i + k)
 segments source [] p zero zero a s g = omega arith
 segments source [] p zero (suc k) a s g = omega arith

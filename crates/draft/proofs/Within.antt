@@ -1,6 +1,6 @@
 -- Every violation stands at a word of the program.
 use Rattle.std.proofs.Common.{◌≡◌, ℕ, suc, ◌+◌, ◌*◌, ◌<◌, ◌≤◌, Bool, true, false, cond, not, List, [], ◌∷◌, ◌++◌, map, length, refl, arith, length-append}
-use Rattle.std.specs.List.{AllByRecursion as All}
+use Rattle.std.specs.List.{AllByRecursion}
 use Rattle.std.proofs.ByRecursion.{All-append, All-weaker}
 use Rattle.words.specs.Bytes.{Text}
 use Rattle.words.specs.Vocabulary.{Symbol, ALPHABET, EQUALS, IF, WHILE, ACCEPT, REJECT}
@@ -17,7 +17,7 @@ use Rattle.draft.specs.Outcome.{ViolationsWithin}
 
 -- these violations stand at words below n
 abbrev Under : ℕ → List Violation → Type 0
-Under n fs = All (λ v. v.index < n) fs
+Under n fs = AllByRecursion (λ v. v.index < n) fs
 
 both : (n : ℕ) (xs ys : List Violation) → Under n xs → Under n ys → Under n (xs ++ ys)
 both n xs ys h k = All-append (λ v. v.index < n) xs ys h k
@@ -62,7 +62,7 @@ once_under k (once_move d) i = tt
 
 -- these symbols stand at words below n
 abbrev SymbolsUnder : ℕ → List (ℕ × ℕ) → Type 0
-SymbolsUnder n ps = All (λ p. p.1 < n) ps
+SymbolsUnder n ps = AllByRecursion (λ p. p.1 < n) ps
 
 indexed_under : (cs : List ℕ) (i n : ℕ) → i + 2 * length cs ≤ n → SymbolsUnder n (indexed cs i)
 indexed_under [] i n h = tt

@@ -1,6 +1,6 @@
 -- The outcome of a source by its draft.
 use Rattle.std.specs.Prelude.{◌≡◌, ◌<◌, false, length, Some, None, Ok, Option, Result, nat_lt}
-use Rattle.std.specs.List.{AllByRecursion as All}
+use Rattle.std.specs.List.{AllByRecursion}
 use Rattle.words.specs.Bytes.{Text, first_foreign}
 use Rattle.words.specs.Words.{words}
 use Rattle.grammar.specs.Tree.{Program}
@@ -17,7 +17,7 @@ use Rattle.draft.specs.Places.{letters_at, draft_at, place_at}
 
 -- every violation stands at a word of the program
 abbrev pub ViolationsWithin : Type 0
-ViolationsWithin = (t : Program) → All (λ v. v.index < length (render t)) (faults t)
+ViolationsWithin = (t : Program) → AllByRecursion (λ v. v.index < length (render t)) (faults t)
 
 -- the letters of a program in a source, by places
 abbrev pub source_letters : Text → Program → Letters

@@ -3,4 +3,6 @@
 //!
 //! Each function of `laws` carries one theorem about the definitions, and does nothing.
 
+#![tactic(auto)]
+
 pub mod laws;

@@ -2,6 +2,8 @@
 //!
 //! All of it is in `specs/`. A function here carries one theorem about these definitions by its contract, and does nothing.
 
+#![tactic(auto)]
+
 ghost use Rattle.grammar.specs.Borders.{Borders};
 ghost use Rattle.grammar.specs.Laws.{FindsDepth, FindsFaults, OneAnswer, ReadsBack, ReadsPrograms, Unambiguous};
 ghost use Rattle.grammar.specs.Openings.{CountsDepth, TellsCase};

@@ -3,6 +3,8 @@
 //!
 //! The code declares the types of the answers. Each function of `laws` carries one theorem about the definitions, and does nothing.
 
+#![tactic(auto)]
+
 pub mod calls;
 pub mod faults;
 pub mod laws;

@@ -11,7 +11,7 @@ use Rattle.tape.specs.declared.kinds.TapeRefusal.{TapeRefusal}
 use Rattle.tape.specs.declared.kinds.TapeRefusal.TheVariants.{Edge, Capacity}
 use Rattle.tape.specs.Meaning.{Meaning, nonblank, at_head, reached, code_in, put_answer, put_after, written, shift_answer, shift_after, moved, beside, unless_refused}
 use Rattle.sparse.specs.declared.record.NonblankCell.{NonblankCell}
-use Rattle.sparse.specs.declared.tape.SparseTape.{SparseTape}
+use Rattle.sparse.specs.declared.sparse.SparseTape.{SparseTape}
 use Rattle.sparse.specs.Records.{code_at, cells_of, Rising, rising, stands, of_records}
 use Rattle.sparse.specs.Sound.{rises, rises_test, rising_low, rising_join, length_cells, get_or_cells, nonblank_cells}
 use Rattle.sparse.proofs.Order.{right_on, right_off, left_on, left_off, rising_high}

@@ -6,7 +6,7 @@ use Rattle.bounded.specs.Held.{held, all}
 use Rattle.tape.specs.declared.kinds.TapeRefusal.{TapeRefusal}
 use Rattle.tape.specs.declared.kinds.TapeRefusal.TheVariants.{Shape}
 use Rattle.tape.specs.Meaning.{Meaning, Valid}
-use Rattle.sparse.specs.declared.tape.SparseTape.{SparseTape}
+use Rattle.sparse.specs.declared.sparse.SparseTape.{SparseTape}
 use Rattle.sparse.specs.Records.{of_records}
 use Rattle.sparse.specs.Sound.{sound}
 

@@ -1,2 +1,4 @@
+#![tactic(auto)]
+
 pub mod record;
-pub mod tape;
+pub mod sparse;

@@ -1,3 +1,5 @@
+#![tactic(auto)]
+
 pub mod dense;
 pub mod display;
 pub mod kinds;

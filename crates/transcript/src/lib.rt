@@ -1,3 +1,5 @@
+#![tactic(auto)]
+
 pub mod input;
 pub mod lay;
 pub mod page;

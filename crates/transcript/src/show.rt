@@ -7,7 +7,7 @@ use crate::lay::lay;
 use crate::word::Word;
 use bounded::list::BoundedList;
 use sparse::record::NonblankCell;
-use sparse::tape::SparseTape;
+use sparse::sparse::SparseTape;
 use tape::dense::DenseTape;
 use tape::display::{WIDTH, display};
 use tape::symbol::BLANK;

@@ -1,6 +1,6 @@
 -- The words of a source are its marks and its longest stretches of parts.
 use Rattle.std.proofs.Common.{◌≡◌, ℕ, ◌+◌, ◌-◌, ◌<◌, ◌≤◌, false, eqb, ◌⊎◌, List, [], ◌∷◌, length, get_or, take, drop, sym, refl, ap, subst, inl, inr, ⊎_elim, arith, below_more}
-use Rattle.std.specs.List.{AllByRecursion as All}
+use Rattle.std.specs.List.{AllByRecursion}
 use Rattle.std.proofs.lemmas.List.{length-take, length-drop}
 use Rattle.std.proofs.lemmas.Bool.{cases_lt}
 use Rattle.words.specs.declared.bytes.Class.{Class}
@@ -19,8 +19,8 @@ Spoken source i = Holds source i Part ⊎ Holds source i Mark
 
 -- what is so of the words from a place on
 pub record From (source : Text) (p : ℕ) (ws : List Word) : Type 0 where
-  pub stretches : All (Stretch source) ws
-  pub kinds : All (λ w. Single source w ⊎ Longest source w) ws
+  pub stretches : AllByRecursion (Stretch source) ws
+  pub kinds : AllByRecursion (λ w. Single source w ⊎ Longest source w) ws
   pub apart : Apart p ws
   pub whole : (i : ℕ) → p ≤ i → Spoken source i → Covered ws i
 

@@ -1,6 +1,6 @@
 -- What the words of a source are, told by its bytes alone: the law that `words` meets.
 use Rattle.std.specs.Prelude.{◌≡◌, ℕ, ◌+◌, ◌<◌, ◌≤◌, ◌⊎◌, List, [], ◌∷◌, length, take, drop}
-use Rattle.std.specs.List.{AllByRecursion as All}
+use Rattle.std.specs.List.{AllByRecursion}
 use Rattle.words.specs.declared.bytes.Class.TheVariants.{Part, Mark}
 use Rattle.words.specs.Bytes.{Text, Holds}
 use Rattle.words.specs.Words.{Word}
@@ -43,8 +43,8 @@ Apart from (w ∷ ws) = (from ≤ w.place) × Apart (end w) ws
 -- a list has the words of a source: each is a stretch of it, a mark or a longest one of parts; they stand in order, with no
 -- byte in two of them; and every part and every mark is in one of them
 pub record WordsOf (source : Text) (ws : List Word) : Type 0 where
-  pub stretches : All (Stretch source) ws
-  pub kinds : All (λ w. Single source w ⊎ Longest source w) ws
+  pub stretches : AllByRecursion (Stretch source) ws
+  pub kinds : AllByRecursion (λ w. Single source w ⊎ Longest source w) ws
   pub apart : Apart 0 ws
   pub whole : (i : ℕ) → Holds source i Part ⊎ Holds source i Mark → Covered ws i
 

@@ -1,4 +1,6 @@
 // The words of a source, read in place: where each stands, and what it can be to the grammar.
+#![tactic(auto)]
+
 mod bytes;
 mod reader;
 mod token;

@@ -3,7 +3,7 @@ use Rattle.std.proofs.lemmas.List.{drop_more, drop_all}
 use Rattle.sparse.specs.declared.record.NonblankCell.{NonblankCell}
 use Rattle.sparse.specs.Records.{code_at, Rising}
 use Rattle.sparse.specs.Sound.{rises, rising_low, code_below}
-use Rattle.sparse.proofs.tape.operations.find.Goals as goal
+use Rattle.sparse.proofs.sparse.operations.find.Goals as goal
 
 first_code : (cell : ℕ) (rs : List NonblankCell) (i : ℕ) (d : NonblankCell) → i < length rs → code_at (drop i rs) cell ≡ cond (eqb (get_or rs i d).cell cell) (get_or rs i d).code (code_at (drop (i + 1) rs) cell)
 first_code cell rs i d lt = ap (λ l. code_at l cell) (drop_more rs i d lt)

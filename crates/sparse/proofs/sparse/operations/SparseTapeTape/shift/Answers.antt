@@ -4,7 +4,7 @@ use Rattle.tape.specs.declared.kinds.TapeRefusal.TheVariants.{Edge}
 use Rattle.sparse.specs.declared.record.NonblankCell.{NonblankCell}
 use Rattle.sparse.specs.Records.{stands}
 use Rattle.sparse.proofs.Calls.{of_list, kept_by, kept_of, Shifted, shift_backward, shift_left, shift_forward, shift_right, shift_edge}
-use Rattle.sparse.proofs.tape.operations.SparseTapeTape.shift.Goals as goal
+use Rattle.sparse.proofs.sparse.operations.SparseTapeTape.shift.Goals as goal
 
 -- whether a cell has the record that was asked for, from the answer of the test
 tested : (r s : Option NonblankCell) (k : ℕ) (b : Bool) → r ≡ s → b ≡ stands r k → stands s k ≡ b

@@ -1,10 +1,10 @@
 use Rattle.std.proofs.Common.{◌≡◌, Bool, true, false, [], ◌∷◌, Option, sym, refl, ap, ◌∙◌, arith}
 use Rattle.bounded.specs.Held.{held, is_full, next_of}
 use Rattle.sparse.specs.declared.record.NonblankCell.{NonblankCell}
-use Rattle.sparse.specs.declared.tape.SparseTape.{SparseTape}
+use Rattle.sparse.specs.declared.sparse.SparseTape.{SparseTape}
 use Rattle.sparse.specs.Records.{stands}
 use Rattle.sparse.proofs.Calls.{of_list, kept_by, kept_of, put_delete, put_replace, put_nothing, put_insert, insert_done, insert_refused}
-use Rattle.sparse.proofs.tape.operations.SparseTapeTape.put.Goals as goal
+use Rattle.sparse.proofs.sparse.operations.SparseTapeTape.put.Goals as goal
 
 -- whether the head's cell has a record, from the answer of the test
 tested : (t : SparseTape) (r : Option NonblankCell) (b : Bool) → r ≡ next_of (held t.records.now) → b ≡ stands r t.head → stands (next_of (held t.records.now)) t.head ≡ b

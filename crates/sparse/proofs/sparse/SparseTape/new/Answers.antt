@@ -4,7 +4,7 @@ use Rattle.bounded.specs.Held.{held}
 use Rattle.tape.specs.Meaning.{Meaning}
 use Rattle.sparse.specs.Records.{code_at}
 use Rattle.sparse.proofs.Calls.{of_list}
-use Rattle.sparse.proofs.tape.SparseTape.new.Goals as goal
+use Rattle.sparse.proofs.sparse.SparseTape.new.Goals as goal
 
 blanks : (a n : ℕ) → map (code_at []) (range_with_len a n) ≡ replicate n 0
 blanks a zero = refl

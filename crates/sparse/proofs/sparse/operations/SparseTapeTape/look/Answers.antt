@@ -8,7 +8,7 @@ use Rattle.sparse.specs.Sound.{rises, rises_test, rising_low}
 use Rattle.sparse.proofs.Order.{rising_high}
 use Rattle.sparse.proofs.Codes.{code_left, code_right}
 use Rattle.sparse.proofs.Calls.{look_some, look_none}
-use Rattle.sparse.proofs.tape.operations.SparseTapeTape.look.Goals as goal
+use Rattle.sparse.proofs.sparse.operations.SparseTapeTape.look.Goals as goal
 
 wide : (a b : ℕ) (rs : List NonblankCell) → b ≤ 4096 → rising a b rs ≡ true → rising 0 4096 rs ≡ true
 wide a b rs le h = rises_test 0 4096 rs (rising_high 0 b 4096 rs le (rising_low a 0 b rs (omega arith) (rises a b rs h)))

@@ -4,7 +4,7 @@ ghost use Rattle.sparse.specs.Records.{rising, code_at, stands};
 ghost use Rattle.sparse.specs.Sparse.{sparse, blank_tape, sparse_fits, sparse_check, sparse_sound};
 
 use crate::record::NonblankCell;
-use crate::tape::SparseTape;
+use crate::sparse::SparseTape;
 use bounded::list::BoundedList;
 use tape::kinds::{Direction, TapeRefusal};
 use tape::reach::reach;
