@@ -4,7 +4,7 @@ use mathlib.Core.Option.{Option as Maybe, none, some}
 use Rattle.std.proofs.lemmas.Bool.{eqb-true, eq-eqb, and_parts, and_from, or_left, or_right, false≢true}
 use Rattle.words.specs.Bytes.{Text}
 use Rattle.words.specs.Vocabulary.{Symbol, ACCEPT, REJECT, same}
-use Rattle.grammar.specs.Tree.{Direction, Act, change, move, Flow, accept, reject, goto, Once, once_change, once_move, symbols, Body, act_cases, acts_flow, Case, if, while, Cases, no_more, more, Inside, cases, body, Module, module', Program, program}
+use Rattle.grammar.specs.Tree.{Direction, Act, change, move, Flow, accept, reject, goto, Once, once_change, once_move, Body, act_cases, acts_flow, Case, if, while, Cases, no_more, more, Inside, cases, body, Module, module', Program, program}
 use Rattle.grammar.specs.Render.{acts_words, symbols_words, case_words, module_words}
 use Rattle.meaning.specs.declared.faults.Cause.{Cause}
 use Rattle.meaning.specs.declared.faults.Cause.TheVariants.{Alphabet, ModuleName, Goto, Letter, Repeated, Missing, Limit}

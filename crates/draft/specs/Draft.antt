@@ -1,5 +1,5 @@
 -- A draft: what a compiler keeps on its one way through the words of a program, and what a word or a mark adds to it.
-use Rattle.std.specs.Prelude.{ℕ, suc, ◌+◌, Bool, true, false, cond, not, ◌&&◌, ◌||◌, List, [], ◌∷◌, ◌++◌, Some, None, Option, ◌==◌}
+use Rattle.std.specs.Prelude.{ℕ, suc, Bool, true, false, cond, not, ◌&&◌, ◌||◌, List, [], ◌∷◌, ◌++◌, Some, None, Option, ◌==◌}
 use Rattle.words.specs.Bytes.{Text}
 use Rattle.words.specs.Vocabulary.{Symbol, ACCEPT, REJECT, same}
 use Rattle.meaning.specs.declared.faults.Cause.{Cause}

@@ -1,5 +1,5 @@
 -- The grammar's automaton, with an event for each word. What is awaited says what the word is there, and the kind of the word decides.
-use Rattle.std.specs.Prelude.{◌≡◌, ℕ, suc, Bool, true, false, cond, List, [], ◌∷◌, nat_eq, nat_lt}
+use Rattle.std.specs.Prelude.{ℕ, suc, Bool, true, false, cond, List, [], ◌∷◌, nat_eq, nat_lt}
 use Rattle.tape.specs.declared.kinds.Direction.TheVariants.{Left as ToLeft, Right as ToRight}
 use Rattle.words.specs.declared.token.Keyword.{Keyword}
 use Rattle.words.specs.declared.token.Keyword.TheVariants.{Alphabet, Module, If, While, Changeto, Move, Left, Right, Accept, Reject, Goto}

@@ -10,7 +10,6 @@ use Rattle.meaning.specs.declared.faults.Fault.{Fault}
 use Rattle.meaning.specs.Blocks.{compiled}
 use Rattle.meaning.specs.Faults.{Violation}
 use Rattle.meaning.specs.Outcome.{fault as fault-of, refused, outcome, compile_answer}
-use Rattle.draft.specs.Draft.{Letters, Draft}
 use Rattle.draft.specs.Noted.{letters_of, draft_of, told as draft-told, finished as draft-finished}
 use Rattle.draft.specs.Places.{Rises, letters_at, draft_at}
 use Rattle.draft.specs.Outcome.{source_letters, source_draft}

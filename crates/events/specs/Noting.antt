@@ -5,7 +5,7 @@ use Rattle.meaning.specs.declared.faults.Cause.TheVariants.{Alphabet, Letter}
 use Rattle.meaning.specs.Codes.{word_code, member, columns}
 use Rattle.meaning.specs.Blocks.{Then, next, jump, switch}
 use Rattle.draft.specs.Draft.{Letters, Draft, no_letters, empty_draft, letter_noted, flagged, name_noted, is_column, Seen, none_seen, seen_too, code_noted, switch_ended, goto_noted, begun}
-use Rattle.draft.specs.Building.{Owner, numbered, arm_of, Current, fresh, last_rank, closed, unfilled, Progress, next_begun}
+use Rattle.draft.specs.Building.{numbered, arm_of, Current, fresh, last_rank, closed, unfilled, Progress, next_begun}
 use Rattle.events.specs.Event as event
 use Rattle.events.specs.Event.{Event}
 

@@ -6,7 +6,7 @@ use Rattle.std.proofs.lemmas.Bool.{cases_lt}
 use Rattle.words.specs.Bytes.{Text}
 use Rattle.grammar.specs.Tree.{Program}
 use Rattle.grammar.specs.Render.{alphabet_words, render}
-use Rattle.grammar.specs.Depth.{depth_limit, depth}
+use Rattle.grammar.specs.Depth.{depth_limit}
 use Rattle.grammar.specs.Automaton.{a_module, Transition, step, Stack, modules, await, Fill, top, after, made, start, as_program}
 use Rattle.grammar.specs.Laws.{IsTooDeep}
 use Rattle.grammar.specs.Openings.{zeros, module_openings, modules_openings, openings, greatest, FirstTooDeep, CountsDepth, TellsCase}

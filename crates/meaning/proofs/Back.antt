@@ -7,7 +7,7 @@ use Rattle.grammar.specs.Render.{case_words, module_words}
 use Rattle.tape.specs.declared.kinds.Direction.{Direction}
 use Rattle.tape.specs.declared.kinds.Direction.TheVariants.{Left, Right}
 use Rattle.meaning.specs.Codes.{code, symbol, meant, spelled, member, different}
-use Rattle.meaning.specs.Blocks.{Then, again, accepting, rejecting, jump, next, Basic, switch, Block, case_basic, case_codes, case_blocks, cases_blocks, lead, arms, module_blocks, modules_blocks, start_in, settled_then, settled_basic, settled_arms, settled, kinds}
+use Rattle.meaning.specs.Blocks.{Then, again, accepting, rejecting, jump, Basic, switch, Block, case_basic, case_codes, case_blocks, cases_blocks, lead, arms, module_blocks, modules_blocks, start_in, settled_then, settled_basic, settled_arms, settled, kinds}
 use Rattle.meaning.specs.declared.machines.Next.{Next}
 use Rattle.meaning.specs.declared.machines.Next.TheVariants.{To, Accept, Reject}
 use Rattle.meaning.specs.Rules.{next_of, basic_action, arm, action_entry, block_rows}

@@ -3,7 +3,7 @@ use Rattle.std.proofs.Common.{◌≡◌, ℕ, suc, ◌+◌, ◌*◌, ◌<◌, �
 use Rattle.std.proofs.lemmas.Bool.{eqb-false, eq-eqb, ne_eqb, and_parts, and_from, not-true, or_parts, or_from, or_left, or_right, ltb-false, le-ltb}
 use Rattle.words.specs.Bytes.{Text}
 use Rattle.words.specs.Vocabulary.{ACCEPT, REJECT, same}
-use Rattle.grammar.specs.Tree.{Flow, accept, reject, goto, symbols, Module}
+use Rattle.grammar.specs.Tree.{Flow, accept, reject, goto, Module}
 use Rattle.grammar.specs.Render.{case_words, module_words, symbols_words}
 use Rattle.meaning.specs.Codes.{code, symbol, member, different, columns}
 use Rattle.meaning.specs.declared.faults.Cause.TheVariants.{Alphabet, ModuleName, Goto, Letter, Repeated, Missing, Limit}

@@ -15,7 +15,7 @@ use Rattle.meaning.specs.Blocks.{compiled}
 use Rattle.meaning.specs.Rules.{Rules, by_blocks, entry, by_table}
 use Rattle.meaning.specs.declared.calls.Status.{Status}
 use Rattle.meaning.specs.declared.calls.Status.TheVariants.{Going, Accepted, Rejected}
-use Rattle.meaning.specs.Runs.{Config, over, first, write_after, action_here, step_refusal, number_after, status_after, after, Went, unless, onward, refused_or, steps, go_refusal, go_of, with_tape, call}
+use Rattle.meaning.specs.Runs.{Config, over, write_after, action_here, step_refusal, number_after, status_after, after, Went, unless, onward, refused_or, steps, go_refusal, go_of, with_tape, call}
 use Rattle.meaning.specs.Endless.{After, at, accepts, rejects, Step, Moment, same_index, next_tape, next_index, stepped, advance, execute_by, marked, nudged, SameAfter}
 use Rattle.meaning.specs.Language.{point_step, first_point}
 use Rattle.meaning.specs.TuringMachine.{state_after, transition}

@@ -1,5 +1,5 @@
 -- The ranges of tables; a new table, and one entry replaced. `None` is refused.
-use Rattle.std.specs.Prelude.{◌≡◌, ℕ, ◌<◌, ◌≤◌, Bool, true, false, cond, not, ◌&&◌, List, [], ◌∷◌, map, length, set, replicate, Some, None, Option, ◌==◌, nat_le, nat_lt, slice_index_or, slice_set}
+use Rattle.std.specs.Prelude.{◌≡◌, ℕ, ◌<◌, ◌≤◌, Bool, true, false, cond, not, ◌&&◌, List, [], ◌∷◌, map, length, replicate, Some, None, Option, ◌==◌, nat_le, nat_lt, slice_index_or, slice_set}
 use Rattle.tape.specs.Meaning.{all_codes}
 use Rattle.meaning.specs.declared.machines.Next.{Next}
 use Rattle.meaning.specs.declared.machines.Next.TheVariants.{To, Accept, Reject}

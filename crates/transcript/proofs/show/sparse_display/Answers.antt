@@ -1,5 +1,4 @@
 use Rattle.std.proofs.Common.{◌≡◌, ℕ, ◌+◌, ◌≤◌, true, ◌&&◌, leb, length, ap, ◌∙◌, arith, lt-ltb}
-use Rattle.bounded.specs.Held.{held}
 use Rattle.sparse.specs.Sparse.{sparse_fits}
 use Rattle.transcript.proofs.show.sparse_display.Goals as goal
 

@@ -8,5 +8,5 @@ pub returns : goal.returns
 unfolding notes_of basic_begun with_current
 returns c = λ source.
     let x = notes_of source c.args.self.now in
-    ap (λ k. with_current k (notes_of source c.take-number.new.self)) c.fresh-block-self.ensures
-    ∙ ap (with_current (fresh (numbered c.args.self.now.count))) (c.take-number.ensures source ∙ ap (λ k. begun c.args.place k x) (c.unfilled.ensures source))
+    ap (λ k. with_current k (notes_of source c.take_number.new.self)) c.fresh_block-self.ensures
+    ∙ ap (with_current (fresh (numbered c.args.self.now.count))) (c.take_number.ensures source ∙ ap (λ k. begun c.args.place k x) (c.unfilled.ensures source))

@@ -29,12 +29,12 @@ pub returns-then-again : goal.returns-then-again
 unfolding notes_of flagged lettered_as
 returns-then-again c = λ source.
     let x = notes_of source c.args.self.now in
-    c.flag.ensures source ∙ ap (λ w. lettered_as x.letters w true c.args.place x) c.saturating-add-self.ensures
+    c.flag.ensures source ∙ ap (λ w. lettered_as x.letters w true c.args.place x) c.saturating_add-self.ensures
     ∙ by_test c.args.code c.args.place x true (sym c.if-again.true ∙ c.knows-again.ensures source)
 
 pub returns-else-again : goal.returns-else-again
 unfolding notes_of with_letter lettered_as
 returns-else-again c = λ source.
     let x = notes_of source c.args.self.now in
-    c.add-letter.ensures source ∙ ap (λ w. lettered_as (kept most_letters x.letters c.args.code) w false c.args.place x) c.saturating-add-self.ensures
+    c.add_letter.ensures source ∙ ap (λ w. lettered_as (kept most_letters x.letters c.args.code) w false c.args.place x) c.saturating_add-self.ensures
     ∙ by_test c.args.code c.args.place x false (sym c.if-again.false ∙ c.knows-again.ensures source)

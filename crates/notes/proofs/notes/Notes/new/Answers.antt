@@ -27,7 +27,7 @@ start s h g c = record {
 pub returns : goal.returns
 unfolding notes_of no_notes start
 returns c = λ source.
-    let k = current_of c.fresh-block.result in
+    let k = current_of c.fresh_block.result in
     let h : Held Module = emptied (held c.args.modules.now).capacity in
     let g : Held Span = emptied (held c.args.gotos.now).capacity in
-    ap (λ (l : Held Module). start source l (held c.clear-2.new.self) k) c.clear.ensures.held ∙ ap (λ (l : Held Span). start source h l k) c.clear-2.ensures.held ∙ ap (start source h g) c.fresh-block.ensures
+    ap (λ (l : Held Module). start source l (held c.clear-2.new.self) k) c.clear.ensures.held ∙ ap (λ (l : Held Span). start source h l k) c.clear-2.ensures.held ∙ ap (start source h g) c.fresh_block.ensures

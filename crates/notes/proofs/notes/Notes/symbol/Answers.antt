@@ -10,7 +10,7 @@ unfolding symbol_noted is_column
 returns-then-knows c = record {
   noted = λ source.
       let x = notes_of source c.args.self.now in
-      c.flag.ensures source ∙ ap (λ b. flagged b c.args.place Repeated x) c.has-seen-again.ensures ∙ sym (cond-true (is_column x c.args.code) _ _ (sym (c.if-knows.ensures source)));
+      c.flag.ensures source ∙ ap (λ b. flagged b c.args.place Repeated x) c.has_seen-again.ensures ∙ sym (cond-true (is_column x c.args.code) _ _ (sym (c.if-knows.ensures source)));
   seen = c.see.ensures;
 }
 

@@ -37,18 +37,18 @@ pub returns-then-over : goal.returns-then-over
 unfolding notes_of flagged counted_as
 returns-then-over c = λ source.
     let x = notes_of source c.args.self.now in
-    c.flag.ensures source ∙ ap (λ n. counted_as n x.blocks true c.args.place x) c.saturating-add-self.ensures
-    ∙ by_test c.args.place (kind_of source c.args.row) x true (sym c.too-many-over.ensures ∙ c.if-over.true)
+    c.flag.ensures source ∙ ap (λ n. counted_as n x.blocks true c.args.place x) c.saturating_add-self.ensures
+    ∙ by_test c.args.place (kind_of source c.args.row) x true (sym c.too_many-over.ensures ∙ c.if-over.true)
 
 pub returns-else-over : goal.returns-else-over
 unfolding notes_of counted_as
 returns-else-over c = λ source.
     let n = c.args.self.now in
     let x = notes_of source n in
-    let few = few_enough n.count n.width (sym c.too-many-over.ensures ∙ c.if-over.false) in
+    let few = few_enough n.count n.width (sym c.too_many-over.ensures ∙ c.if-over.false) in
     let begun = n.begun in
     let whole = n.whole in
     let room : n.stored < length n.rows = omega arith in
-    ap (λ ks. counted_as c.saturating-add-self.result ks false c.args.place x) (kinds_push source n.rows n.stored c.args.row room)
-    ∙ ap (λ m. counted_as m (x.blocks ++ kind_of source c.args.row ∷ []) false c.args.place x) c.saturating-add-self.ensures
-    ∙ by_test c.args.place (kind_of source c.args.row) x false (sym c.too-many-over.ensures ∙ c.if-over.false)
+    ap (λ ks. counted_as c.saturating_add-self.result ks false c.args.place x) (kinds_push source n.rows n.stored c.args.row room)
+    ∙ ap (λ m. counted_as m (x.blocks ++ kind_of source c.args.row ∷ []) false c.args.place x) c.saturating_add-self.ensures
+    ∙ by_test c.args.place (kind_of source c.args.row) x false (sym c.too_many-over.ensures ∙ c.if-over.false)

@@ -18,7 +18,7 @@ loop-i-preserved c = λ source.
     let full = codes.listed in
     let few = codes.few in
     let lt : i < length codes.at = omega arith in
-    c.with-arm-self.ensures source ∙ ap (with_arms (get_or codes.at i 0 ∷ []) b) (c.loop-i.invariant source) ∙ with_more (take i codes.at) (get_or codes.at i 0) b k ∙ ap (λ cs. with_arms cs b k) (sym (take_more codes.at i 0 lt))
+    c.with_arm-self.ensures source ∙ ap (with_arms (get_or codes.at i 0 ∷ []) b) (c.loop-i.invariant source) ∙ with_more (take i codes.at) (get_or codes.at i 0) b k ∙ ap (λ cs. with_arms cs b k) (sym (take_more codes.at i 0 lt))
 
 pub returns : goal.returns
 returns c = λ source.
