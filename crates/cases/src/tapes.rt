@@ -27,7 +27,10 @@ fn one_cell<T: Tape>(rt: &impl Abort, tape: &mut T) {
     assert_eq!(rt; tape.put(255), Err(TapeRefusal::Code));
     assert_eq!(rt; tape.put(0), Ok(()));
     assert_eq!(rt; tape.put(1), Ok(()), "freed and used again");
-    assert_eq!(rt; &display(tape)[0..15] == b"       a       ", true);
+    assert_eq!(rt;
+        &display(tape)[0..15] == b"       a       ".as_slice(),
+        true
+    );
 }
 
 #[test]
@@ -57,7 +60,10 @@ fn largest<T: Tape>(rt: &impl Abort, tape: &mut T) {
     assert_eq!(rt; tape.look(2), None);
     assert_eq!(rt; tape.look(-4094), Some(0), "the first cell");
     assert_eq!(rt; tape.look(-4095), None);
-    assert_eq!(rt; &display(tape)[0..15] == b"_______0z      ", true);
+    assert_eq!(rt;
+        &display(tape)[0..15] == b"_______0z      ".as_slice(),
+        true
+    );
 }
 
 #[test]

@@ -1,5 +1,5 @@
 -- What the parts of notes mean.
-use Rattle.std.specs.Prelude.{ℕ, Bool, false, List, [], ◌∷◌, length, take, drop, Some, None, Option, nat_lt}
+use Rattle.std.specs.Prelude.{ℕ, Bool, false, List, [], ◌∷◌, take, drop, Some, None, Option, nat_lt}
 use Rattle.words.specs.Bytes.{Text}
 use Rattle.meaning.specs.declared.faults.Fault.{Fault}
 use Rattle.meaning.specs.Blocks as meant

@@ -5,9 +5,9 @@ use crate::kinds::{Arm, Current, Module, Shape, Span};
 use bounded::list::BoundedList;
 use meaning::faults::Fault;
 
-pub mod alphabet;
 pub mod blocks;
 pub mod cases;
+pub mod letters;
 pub mod names;
 pub mod operations;
 pub mod rows;

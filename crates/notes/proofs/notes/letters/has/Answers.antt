@@ -2,7 +2,7 @@ use Rattle.std.proofs.Common.{◌≡◌, ℕ, ◌+◌, ◌<◌, ◌||◌, eqb, L
 use Rattle.std.proofs.lemmas.List.{at_drop_more, at_drop_all}
 use Rattle.std.proofs.lemmas.Bool.{eq-eqb, ne_eqb}
 use Rattle.meaning.specs.Codes.{member}
-use Rattle.notes.proofs.notes.alphabet.has.Goals as goal
+use Rattle.notes.proofs.notes.letters.has.Goals as goal
 
 more : (code : ℕ) (cs : List ℕ) (i : ℕ) → i < length cs → member code (drop i cs) ≡ (eqb code (get_or cs i 0) || member code (drop (i + 1) cs))
 more code cs i lt = at_drop_more (member code) cs i 0 lt
