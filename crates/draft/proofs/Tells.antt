@@ -58,11 +58,11 @@ seen_pushed [] seen = refl
 seen_pushed (c ∷ cs) seen = seen_pushed cs (c ∷ seen)
 
 -- of symbols, one after another
-symbol-faults-++ : (cols seen : List ℕ) (xs ys : List (ℕ × ℕ)) → symbol_faults cols seen (xs ++ ys) ≡ symbol_faults cols seen xs ++ symbol_faults cols (pushed (codes_of xs) seen) ys
-symbol-faults-++ cols seen [] ys = refl
-symbol-faults-++ cols seen (x ∷ xs) ys =
+symbol_faults-++ : (cols seen : List ℕ) (xs ys : List (ℕ × ℕ)) → symbol_faults cols seen (xs ++ ys) ≡ symbol_faults cols seen xs ++ symbol_faults cols (pushed (codes_of xs) seen) ys
+symbol_faults-++ cols seen [] ys = refl
+symbol_faults-++ cols seen (x ∷ xs) ys =
     let f = cond (member x.0 cols) (flag (member x.0 seen) x.1 Repeated) (flag true x.1 Letter) in
-    ap (λ fs. f ++ fs) (symbol-faults-++ cols (x.0 ∷ seen) xs ys) ∙ sym (append_assoc f (symbol_faults cols (x.0 ∷ seen) xs) (symbol_faults cols (pushed (codes_of xs) (x.0 ∷ seen)) ys))
+    ap (λ fs. f ++ fs) (symbol_faults-++ cols (x.0 ∷ seen) xs ys) ∙ sym (append_assoc f (symbol_faults cols (x.0 ∷ seen) xs) (symbol_faults cols (pushed (codes_of xs) (x.0 ∷ seen)) ys))
 
 codes_indexed : (cs : List ℕ) (i : ℕ) → codes_of (indexed cs i) ≡ cs
 codes_indexed [] i = refl
@@ -300,7 +300,7 @@ module _ (k : Known) (a : Letters) (cols : (c : ℕ) → is_column a c ≡ membe
   shown_more seen cc i ss p =
       sym (append_assoc (symbol_faults k.symbols seen (indexed cc i)) (symbol_faults k.symbols (pushed cc seen) ss) (unseen p (pushed (codes_of ss) (pushed cc seen))))
       ∙ ap₂ ◌++◌
-      (ap (λ ds. symbol_faults k.symbols seen (indexed cc i) ++ symbol_faults k.symbols (pushed ds seen) ss) (sym (codes_indexed cc i)) ∙ sym (symbol-faults-++ k.symbols seen (indexed cc i) ss))
+      (ap (λ ds. symbol_faults k.symbols seen (indexed cc i) ++ symbol_faults k.symbols (pushed ds seen) ss) (sym (codes_indexed cc i)) ∙ sym (symbol_faults-++ k.symbols seen (indexed cc i) ss))
       (ap (unseen p) (sym (pushed-++ cc (codes_of ss) seen) ∙ ap (λ ds. pushed (ds ++ codes_of ss) seen) (sym (codes_indexed cc i)) ∙ ap (λ ds. pushed ds seen) (sym (codes-++ (indexed cc i) ss))))
 
   -- a case, and the others

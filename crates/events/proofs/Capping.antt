@@ -15,8 +15,8 @@ use Rattle.meaning.specs.Tables.{Each}
 use Rattle.meaning.proofs.Names.{each_columns}
 use Rattle.meaning.proofs.Pigeons.{at_most}
 use Rattle.meaning.proofs.Ranges.{below_37, each-++}
-use Rattle.draft.specs.Draft.{Entry, Pending, Letters, Draft, Seen, none_seen, seen_too, flagged as draft-flagged, all_seen as draft-seen, begun as draft-begun, name_noted as draft-name, is_column}
-use Rattle.draft.specs.Building.{altered as draft-altered, filled as draft-filled, with_arms as draft-arms, Owner, numbered, arm_of, Current, fresh, last_rank, basic_from, closed, unfilled, next_begun}
+use Rattle.draft.specs.Draft.{Entry, Pending, Letters, Draft, Seen, none_seen, seen_too, flagged as draft_flagged, all_seen as draft_seen, begun as draft_begun, name_noted as draft_name, is_column}
+use Rattle.draft.specs.Building.{altered as draft_altered, filled as draft_filled, with_arms as draft_arms, Owner, numbered, arm_of, Current, fresh, last_rank, basic_from, closed, unfilled, next_begun}
 use Rattle.draft.proofs.Tells.{member_mid}
 use Rattle.events.specs.Event as event
 use Rattle.events.specs.Event.{Event, played}
@@ -83,10 +83,10 @@ flags_set (suc n) s (suc c) =
     ∙ ap₂ (λ b f. (b || s 0) ∷ flags n f) (sym (eqb-zero-suc c)) (fun_ext (λ j. ap (λ b. b || s (suc j)) (sym (eqb-suc-suc j c))))
 
 -- whether all columns were seen
-flags_seen : (cols : List ℕ) (s : Seen) → Each (λ c. c ≤ 36) cols → all_seen cols (flags 37 s) ≡ draft-seen cols s
+flags_seen : (cols : List ℕ) (s : Seen) → Each (λ c. c ≤ 36) cols → all_seen cols (flags 37 s) ≡ draft_seen cols s
 flags_seen [] s h = refl
 flags_seen (c ∷ cols) s h =
-    ap₂ (λ (x y : Bool). cond x y false) (flags_get 37 s c (let z = h.0 in omega arith)) (flags_seen cols s h.1) ∙ by (s c) (draft-seen cols s)
+    ap₂ (λ (x y : Bool). cond x y false) (flags_get 37 s c (let z = h.0 in omega arith)) (flags_seen cols s h.1) ∙ by (s c) (draft_seen cols s)
   where
     by : (x y : Bool) → cond x y false ≡ (x && y)
     by true y = refl
@@ -145,21 +145,21 @@ cut_state u = record { notes = cut_notes u.letters u.draft u.current; switches =
 
 -- what changes a kind changes it cut to size
 altered_cut : (bs : List (Block Text)) (q : ℕ) (f g : Kind Text → Kind Text) → ((k : Kind Text) → f (cut_kind k) ≡ cut_kind (g k))
-    → altered (cut_blocks bs) q f ≡ cut_blocks (draft-altered bs q g)
+    → altered (cut_blocks bs) q f ≡ cut_blocks (draft_altered bs q g)
 altered_cut [] q f g h = refl
 altered_cut (b ∷ bs) zero f g h = ap (λ k. k ∷ cut_blocks bs) (h b.kind)
 altered_cut (b ∷ bs) (suc q) f g h = ap (λ ks. cut_kind b.kind ∷ ks) (altered_cut bs q f g h)
 
 -- more arms
-arms_cut : (cs : List ℕ) (b : Basic Text) (k : Kind Text) → with_arms (take 37 cs) b (cut_kind k) ≡ cut_kind (draft-arms cs b k)
+arms_cut : (cs : List ℕ) (b : Basic Text) (k : Kind Text) → with_arms (take 37 cs) b (cut_kind k) ≡ cut_kind (draft_arms cs b k)
 arms_cut cs b (basic c) = refl
 arms_cut cs b (switch arms) =
     ap (λ l. switch (take 37 (take 37 arms ++ l))) (lead_take 37 cs b) ∙ ap switch (take_joined 37 37 arms (lead cs b) (omega arith))
 
 -- the owner's basic block
-filled_cut : (o : Owner) (b : Basic Text) (bs : List (Block Text)) → filled (cut_owner o) b (cut_blocks bs) ≡ cut_blocks (draft-filled o b bs)
+filled_cut : (o : Owner) (b : Basic Text) (bs : List (Block Text)) → filled (cut_owner o) b (cut_blocks bs) ≡ cut_blocks (draft_filled o b bs)
 filled_cut (numbered q) b bs = altered_cut bs q (λ k. basic b) (λ k. basic b) (λ k. refl)
-filled_cut (arm_of q cs) b bs = altered_cut bs q (with_arms (take 37 cs) b) (draft-arms cs b) (arms_cut cs b)
+filled_cut (arm_of q cs) b bs = altered_cut bs q (with_arms (take 37 cs) b) (draft_arms cs b) (arms_cut cs b)
 
 -- one more block
 blocks_more : (bs : List (Block Text)) (b : Block Text) → cut_blocks bs ++ cut_kind b.kind ∷ [] ≡ cut_blocks (bs ++ b ∷ [])
@@ -187,7 +187,7 @@ finished_cut t a x c = λ j. record {
 }
 
 -- a block begins
-begun_cut : (p : ℕ) (k : Kind Text) (a : Letters) (x : Draft) (c : Current) → suc x.count ≤ most_count → begun p (cut_kind k) (cut_notes a x c) ≡ cut_notes a (draft-begun a p k x) c
+begun_cut : (p : ℕ) (k : Kind Text) (a : Letters) (x : Draft) (c : Current) → suc x.count ≤ most_count → begun p (cut_kind k) (cut_notes a x c) ≡ cut_notes a (draft_begun a p k x) c
 unfolding begun
 begun_cut p k a x c h = λ j. record {
   letters = a.letters;
@@ -196,7 +196,7 @@ begun_cut p k a x c h = λ j. record {
   gotos = x.gotos;
   count = counted_is x.count h j;
   blocks = by (too_many (suc x.count) a.width) j;
-  violation = (draft-begun a p k x).violation;
+  violation = (draft_begun a p k x).violation;
   current = cut_current c;
   name_room = 3749;
   goto_room = 5000;
@@ -208,7 +208,7 @@ begun_cut p k a x c h = λ j. record {
 
 -- a basic block begins, and is under construction
 basic_begun_cut : (p : ℕ) (a : Letters) (x : Draft) (c : Current) → suc x.count ≤ most_count
-    → basic_begun p (cut_notes a x c) ≡ cut_notes a (draft-begun a p unfilled x) (fresh (numbered x.count))
+    → basic_begun p (cut_notes a x c) ≡ cut_notes a (draft_begun a p unfilled x) (fresh (numbered x.count))
 unfolding basic_begun with_current
 basic_begun_cut p a x c h = ap (with_current (fresh (numbered x.count))) (begun_cut p unfilled a x c h)
 
@@ -336,7 +336,7 @@ name_step w p u =
           gotos = x.gotos;
           count = x.count;
           blocks = cut_blocks x.blocks;
-          violation = (draft-name w p x).violation;
+          violation = (draft_name w p x).violation;
           current = cut_current u.current;
           name_room = 3749;
           goto_room = 5000;
@@ -450,7 +450,7 @@ symbol_step c p (o ∷ os) u l = by (is_column u.letters c)
     x = u.draft
 
     y : Bool → Draft
-    y b = cond b (draft-flagged (o.seen c) p Repeated x) (draft-flagged true p Letter x)
+    y b = cond b (draft_flagged (o.seen c) p Repeated x) (draft_flagged true p Letter x)
 
     z : Bool → Notes
     z b = cond b (flagged (get_or (flags 37 o.seen) c false) p Repeated (cut_notes a x u.current)) (flagged true p Letter (cut_notes a x u.current))

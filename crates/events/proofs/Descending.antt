@@ -10,7 +10,7 @@ use Rattle.meaning.specs.declared.faults.Cause.TheVariants.{Length}
 use Rattle.meaning.specs.Blocks.{compiled}
 use Rattle.meaning.specs.Faults.{Violation}
 use Rattle.meaning.specs.Outcome.{refused, worded, byted, outcome, compile_answer, compile_after}
-use Rattle.draft.specs.Noted.{told as draft-told, finished as draft-finished}
+use Rattle.draft.specs.Noted.{told as draft_told, finished as draft_finished}
 use Rattle.draft.specs.Outcome.{source_letters, source_draft, drafted, stored}
 use Rattle.draft.proofs.Outcome.{tells_outcome}
 use Rattle.events.specs.Event.{events, played}
@@ -37,11 +37,11 @@ module _ (keeps : KeepsAll) (source : Text) (short : ltb 60000 (length source) �
       let k = keeps source t short e in
       let o = tells_outcome source t short bytes e in
       record {
-        answers = ap compile_answer o.answers ∙ drafted_answer t (draft-told (source_draft source t)) ∙ ap answered (sym k.tells);
+        answers = ap compile_answer o.answers ∙ drafted_answer t (draft_told (source_draft source t)) ∙ ap answered (sym k.tells);
         accepts = λ n.
-            let d : draft-told (source_draft source t) ≡ None = sym k.tells ∙ n in
+            let d : draft_told (source_draft source t) ≡ None = sym k.tells ∙ n in
             let ok = o.answers ∙ ap (drafted t) d in
-            let all = draft-finished (source_letters source t) (source_draft source t) in
+            let all = draft_finished (source_letters source t) (source_draft source t) in
             (t, ok, k.stores n ∙ sym (ap (compile_after (compiled t)) (sym ok) ∙ o.stores (compiled t) ∙ ap (λ v. stored (compiled t) v all) d));
       }
 

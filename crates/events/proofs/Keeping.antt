@@ -7,7 +7,7 @@ use Rattle.meaning.specs.Faults.{Violation, faults, lowest, first_fault}
 use Rattle.meaning.specs.Tables.{Each}
 use Rattle.draft.specs.Draft.{Pending, Letters, Draft, first_number}
 use Rattle.draft.specs.Building.{Current}
-use Rattle.draft.specs.Noted.{letters_of, draft_of, told as draft-told, finished as draft-finished}
+use Rattle.draft.specs.Noted.{letters_of, draft_of, told as draft_told, finished as draft_finished}
 use Rattle.draft.specs.Outcome.{source_letters, source_draft}
 use Rattle.draft.specs.Places.{lowest_at, gotos_at, NotesPlaces, place_at}
 use Rattle.draft.proofs.Tells.{tells_first}
@@ -39,12 +39,12 @@ none_at at None h = refl
 none_at at (Some v) h = let z : ◌≡◌ {A = ℕ} 0 1 = cc in absurd (omega arith)
 
 -- notes cut to size tell the same
-told_cut : (a : Letters) (x : Draft) (c : Current) → told (cut_notes a x c) ≡ draft-told x
+told_cut : (a : Letters) (x : Draft) (c : Current) → told (cut_notes a x c) ≡ draft_told x
 unfolding told
 told_cut a x c = refl
 
 -- and stand for the same program, where its switches have few arms
-program_cut : (a : Letters) (x : Draft) (c : Current) → Each Few (draft-finished a x).blocks → program_noted (cut_notes a x c) ≡ draft-finished a x
+program_cut : (a : Letters) (x : Draft) (c : Current) → Each Few (draft_finished a x).blocks → program_noted (cut_notes a x c) ≡ draft_finished a x
 unfolding program_noted
 program_cut a x c h = λ j. record { letters = a.letters; blocks = kinds_whole (first_number x.names) x.blocks h j }
 
@@ -90,7 +90,7 @@ keeps_all_from makes source t short e = record {
     placing : NotesPlaces at
     placing = keeps_places at (places_rise source).rise
 
-    few : draft-told x ≡ None → Each Few (draft-finished a x).blocks
+    few : draft_told x ≡ None → Each Few (draft_finished a x).blocks
     few n =
         let f : first_fault t ≡ None = none_at at (first_fault t) (sym (placing.tell (draft_of t) ∙ ap (lowest_at at) (tells_first t)) ∙ n) in
         subst (λ (p : Compiled). Each Few p.blocks) (sym (placing.finish (letters_of t) (draft_of t) ∙ finishes t f)) (blocks_few t (lowest_none (faults t) f))

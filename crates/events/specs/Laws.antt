@@ -9,8 +9,8 @@ use Rattle.meaning.specs.declared.faults.Cause.TheVariants.{Word as WordFault, D
 use Rattle.meaning.specs.declared.faults.Fault.{Fault}
 use Rattle.meaning.specs.Blocks.{compiled}
 use Rattle.meaning.specs.Faults.{Violation}
-use Rattle.meaning.specs.Outcome.{fault as fault-of, refused, outcome, compile_answer}
-use Rattle.draft.specs.Noted.{letters_of, draft_of, told as draft-told, finished as draft-finished}
+use Rattle.meaning.specs.Outcome.{fault as fault_of, refused, outcome, compile_answer}
+use Rattle.draft.specs.Noted.{letters_of, draft_of, told as draft_told, finished as draft_finished}
 use Rattle.draft.specs.Places.{Rises, letters_at, draft_at}
 use Rattle.draft.specs.Outcome.{source_letters, source_draft}
 use Rattle.events.specs.Event.{Event, events, played}
@@ -50,8 +50,8 @@ MakesDrafts = (at : ℕ → ℕ) → Rises at → (t : Program) → Makes at t
 
 -- what is kept in memory of fixed size tells the same
 pub record Keeps (source : Text) (t : Program) (x : Notes) : Type 0 where
-  pub tells : told x ≡ draft-told (source_draft source t)
-  pub stores : told x ≡ None → program_noted x ≡ draft-finished (source_letters source t) (source_draft source t)
+  pub tells : told x ≡ draft_told (source_draft source t)
+  pub stores : told x ≡ None → program_noted x ≡ draft_finished (source_letters source t) (source_draft source t)
 
 abbrev pub KeepsAll : Type 0
 KeepsAll =
@@ -61,7 +61,7 @@ KeepsAll =
 -- what compile answers where notes tell this
 abbrev pub answered : Option Violation → Result (Unit {0}) Fault
 answered None = Ok tt
-answered (Some v) = Err (fault-of v.cause v.index)
+answered (Some v) = Err (fault_of v.cause v.index)
 
 -- notes tell the outcome of a source: its fault, or, where there is none, its program
 pub record Noted (source : Text) (x : Notes) : Type 0 where

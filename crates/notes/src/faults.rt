@@ -1,7 +1,7 @@
 // The lowest violation of a rule.
 ghost use Rattle.std.specs.Prelude.{◌≡◌, suc};
 ghost use Rattle.meaning.specs.Faults.{before, lower, too_many};
-ghost use Rattle.draft.specs.Draft.{met as violation-met};
+ghost use Rattle.draft.specs.Draft.{met as violation_met};
 ghost use Rattle.notes.specs.Kinds.{violation_of, violation_by, known_before};
 
 use meaning::faults::Fault;
@@ -33,7 +33,7 @@ fn lowest(violation: Option<Fault>, fault: Fault) -> Fault
 
 // The lowest violation, after one more where a rule is broken.
 pub(crate) fn met(broken: bool, fault: Fault, violation: Option<Fault>) -> Option<Fault>
-    ensures { violation_of result ≡ violation-met broken fault.place fault.cause (violation_of violation) }
+    ensures { violation_of result ≡ violation_met broken fault.place fault.cause (violation_of violation) }
 {
     if broken {
         Some(lowest(violation, fault))

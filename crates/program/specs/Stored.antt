@@ -4,7 +4,7 @@ use Rattle.words.specs.Bytes.{Text}
 use Rattle.grammar.specs.Tree.{Program as Tree}
 use Rattle.meaning.specs.declared.faults.Fault.{Fault}
 use Rattle.meaning.specs.Codes.{columns}
-use Rattle.meaning.specs.Blocks.{rejecting, basic, Compiled, compiled as program-of}
+use Rattle.meaning.specs.Blocks.{rejecting, basic, Compiled, compiled as program_of}
 use Rattle.alphabet.specs.Alphabets.{letters_of}
 use Rattle.program.specs.declared.program.Program.{Program}
 use Rattle.program.specs.Store.{kinds_of}
@@ -23,7 +23,7 @@ first_program = record { letters = 1 ∷ []; blocks = basic (record { write = No
 
 -- what an accepted source says
 abbrev pub said : Result Tree Fault → Option Compiled
-said (Ok t) = Some (program-of t)
+said (Ok t) = Some (program_of t)
 said (Err f) = None
 
 -- the source of the first program
