@@ -1,4 +1,9 @@
 //! The program place: an alphabet and numbered blocks, as a source says them.
 
+#![tactic(auto)]
+
+mod arms;
 pub mod blocks;
+pub mod builder;
+pub mod laws;
 pub mod program;
