@@ -1,2 +1,10 @@
 pub mod Actions
 pub mod Ranged
+pub mod ArmSteps
+pub mod Whole
+pub mod Building
+pub mod Written
+pub mod Pushed
+pub mod Fitting
+pub mod Filled
+pub mod Accepted

@@ -29,3 +29,17 @@ pub enum Shape {
     Single,
     Switch,
 }
+
+// An arm of a switch: a symbol code and its basic block.
+#[derive(Clone, Copy, Drop)]
+pub struct Arm {
+    pub code: u8,
+    pub basic: Basic,
+}
+
+// What stands in a slot that no block uses.
+pub const UNUSED: Basic = Basic {
+    write: None,
+    movement: None,
+    then: Then::End,
+};

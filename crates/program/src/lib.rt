@@ -2,5 +2,8 @@
 
 #![tactic(auto)]
 
+mod arms;
 pub mod blocks;
+pub mod builder;
+pub mod laws;
 pub mod program;

@@ -13,13 +13,13 @@ pub mod operations;
 // A basic block has the first slot of its row. 13,740 bytes.
 #[derive(Drop)]
 pub struct Program {
-    alphabet: Alphabet,
+    pub(crate) alphabet: Alphabet,
     // how many numbers there are
-    count: u32,
-    shapes: [Shape; 128],
+    pub(crate) count: u32,
+    pub(crate) shapes: [Shape; 128],
     // a row for each number too: the symbols of a switch in order of writing
-    order: [u8; 1024],
-    slots: [Basic; 1024],
+    pub(crate) order: [u8; 1024],
+    pub(crate) slots: [Basic; 1024],
     ghost listed: { length order ≡ 1024 },
     ghost whole: { length slots ≡ 1024 },
     ghost numbered: { 1 ≤ count },

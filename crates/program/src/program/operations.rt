@@ -6,18 +6,12 @@ ghost use Rattle.program.specs.Ranges.{Ranges};
 ghost use Rattle.program.specs.Stored.{compiled, columns_of, first_program, first_source, said};
 ghost use Rattle.program.specs.Sound.{program_sound};
 
-use crate::blocks::{Basic, Shape, Then};
+use crate::blocks::{Basic, Shape, Then, UNUSED};
 use crate::program::Program;
 use alphabet::letters::Alphabet;
 use machine::machine::Machine;
 use meaning::machines::{Action, Next};
 use tape::kinds::Direction;
-
-const UNUSED: Basic = Basic {
-    write: None,
-    movement: None,
-    then: Then::End,
-};
 
 // The action of a basic block of the block `number`: left where no move is written, reject at the end of a body.
 fn act(number: u32, basic: Basic) -> Action
