@@ -1,5 +1,5 @@
 -- One word of a run, and its end.
-use Rattle.std.proofs.Common.{◌≡◌, ℕ, ◌≤◌, List, [], ◌∷◌, length, Some, None, Ok, Err, Option, Result, sym, refl, ap, ◌∙◌, arith}
+use Rattle.std.proofs.Common.{◌≡◌, ◌≤◌, List, [], ◌∷◌, length, Some, None, Ok, Err, Option, Result, ap, ◌∙◌, arith}
 use Rattle.words.specs.declared.word.Word.{Word as Given}
 use Rattle.words.specs.Bytes.{Text}
 use Rattle.words.specs.Words.{Word}

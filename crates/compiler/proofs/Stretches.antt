@@ -1,12 +1,12 @@
 -- The words that a reader gives are stretches of its source.
-use Rattle.std.proofs.Common.{◌≡◌, ℕ, zero, suc, ◌+◌, ◌-◌, List, [], ◌∷◌, length, take, drop, sym, refl, ap, ◌∙◌, subst}
+use Rattle.std.proofs.Common.{◌≡◌, ℕ, zero, suc, ◌+◌, ◌-◌, List, [], ◌∷◌, length, take, drop, refl, ap, subst}
 use Rattle.words.specs.declared.bytes.Class.{Class}
 use Rattle.words.specs.declared.bytes.Class.TheVariants.{Part, Mark, Separator, Foreign}
 use Rattle.words.specs.declared.reader.Condition.{Condition}
 use Rattle.words.specs.declared.reader.Condition.TheVariants.{Between, Inside}
 use Rattle.words.specs.declared.reader.Reader.{Reader}
 use Rattle.words.specs.Bytes.{Text, class}
-use Rattle.words.specs.Words.{Word, cut, turn, last, scan}
+use Rattle.words.specs.Words.{Word, cut, turn, scan}
 use Rattle.words.specs.Reading.{left}
 use Rattle.meaning.specs.Tables.{Each}
 

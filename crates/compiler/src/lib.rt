@@ -1,3 +1,4 @@
 //! From a source to a checked program, in one pass.
+#![tactic(auto)]
 
 mod parser;

@@ -3,8 +3,8 @@ ghost use Rattle.std.specs.Prelude.{◌≡◌, ◌≤◌, [], ◌∷◌, length}
 ghost use Rattle.events.specs.Descent.{inside_end, a_module, an_alphabet, modules, start};
 ghost use Rattle.compiler.specs.Reading.{rest, Reads, Continues, Ends};
 
-use super::lexemes::unexpected;
-use super::{Head, Parser};
+use super::Parser;
+use super::lexemes::{head_of, unexpected};
 use meaning::faults::Fault;
 use notes::notes::Notes;
 use words::{Keyword, Token, Word};
@@ -19,15 +19,9 @@ impl<'a> Parser<'a> {
         ensures reads { Reads result (inside_end ∷ []) self.old out.old self.new out.new }
     {
         let word = self.take()?;
-        match word.token() {
-            Some(Token::Keyword(Keyword::If, _)) => self.switch(out, Head::If, word.place, DEEPEST),
-            Some(Token::Keyword(Keyword::While, _)) => self.switch(
-                out,
-                Head::While,
-                word.place,
-                DEEPEST,
-            ),
-            _ => {
+        match head_of(word) {
+            Some(head) => self.switch(out, head, word.place, DEEPEST),
+            None => {
                 out.begin(word.place);
                 self.commands(out, word, DEEPEST)
             }

@@ -3,7 +3,7 @@ use Rattle.std.proofs.Common.{◌≡◌, ℕ, Ok, Err, Result, sym, refl, ap, �
 use Rattle.words.specs.Bytes.{Text}
 use Rattle.grammar.specs.Tree.{Program}
 use Rattle.meaning.specs.declared.faults.Fault.{Fault}
-use Rattle.meaning.specs.Blocks.{Compiled, compiled}
+use Rattle.meaning.specs.Blocks.{Compiled}
 use Rattle.meaning.specs.Outcome.{outcome, compile_answer, compile_after}
 use Rattle.meaning.specs.Exact.{Accepted, Refused}
 use Rattle.meaning.proofs.Exactly.{exact}

@@ -5,16 +5,17 @@ use Rattle.words.specs.declared.token.Mark.{Mark}
 use Rattle.words.specs.declared.token.Mark.TheVariants.{Close}
 use Rattle.words.specs.Bytes.{Text}
 use Rattle.words.specs.Words.{Word}
-use Rattle.words.specs.Reading.{left, word}
+use Rattle.words.specs.Reading.{left}
 use Rattle.words.specs.declared.word.Word.{Word as Given}
-use Rattle.words.specs.Tokens.{kind}
+use Rattle.words.specs.declared.token.Keyword.TheVariants.{If as KeyIf, While as KeyWhile}
+use Rattle.words.specs.Tokens.{Kind, kind}
 use Rattle.meaning.specs.declared.faults.Fault.{Fault}
 use Rattle.meaning.specs.declared.faults.Cause.TheVariants.{Word as WordFault, Depth}
 use Rattle.meaning.specs.Codes.{word_code}
 use Rattle.meaning.specs.Blocks.{again}
 use Rattle.events.specs.Event as event
 use Rattle.events.specs.Event.{Event}
-use Rattle.events.specs.Descent.{Item, the_mark, a_letter, a_name, a_target, a_written, a_direction, a_symbol, symbols_end, once_end, body_end, cases_end, a_module, Stack, modules, await, push, Outcome, made, fault, follow, is_symbol, is_name, turn, run}
+use Rattle.events.specs.Descent.{Item, the_mark, a_letter, a_name, a_target, a_written, a_direction, a_symbol, symbols_end, once_end, body_end, cases_end, a_module, Stack, modules, await, push, Outcome, made, fault, follow, is_key, is_symbol, is_name, turn, run}
 use Rattle.events.specs.Notes.{Open, State, noted_as, letter_noted, write_noted, symbol_read, open_read, name_noted, jump_noted, turn_noted, finished, apply}
 use Rattle.notes.specs.declared.kinds.Span.{Span}
 use Rattle.notes.specs.declared.kinds.Then.{Then}
@@ -67,6 +68,10 @@ code_in w = cond (is_symbol (kind w)) (Some (word_code w)) None
 -- the word is a name
 abbrev pub named : Text → Bool
 named w = is_name (kind w) w
+
+-- how the case begins that a word of a kind begins, if it begins one
+abbrev pub head_in : Kind → Option Head
+head_in κ = cond (is_key KeyIf κ) (Some If) (cond (is_key KeyWhile κ) (Some While) None)
 
 -- a mark was read at a place, whatever its event
 abbrev pub Marks : Result ℕ Fault → Mark → Parser → Parser → Type 0

@@ -1,9 +1,10 @@
 // One word, by what is awaited.
 ghost use Rattle.std.specs.Prelude.{◌≡◌, ◌≤◌, length};
 ghost use Rattle.words.specs.declared.token.Mark.TheVariants.{Open, Close, Equals};
-ghost use Rattle.compiler.specs.Reading.{code_in, named, rest, Came, Took, Marks, Symbols, Names, Directions};
+ghost use Rattle.words.specs.Tokens.{kind};
+ghost use Rattle.compiler.specs.Reading.{code_in, named, head_in, rest, Came, Took, Marks, Symbols, Names, Directions};
 
-use super::{Parser, Symbol};
+use super::{Head, Parser, Symbol};
 use meaning::faults::{Cause, Fault};
 use notes::kinds::Span;
 use tape::kinds::Direction;
@@ -33,6 +34,17 @@ fn is_name(word: Word) -> bool
     match word.token() {
         Some(token) => token.as_name().is_some(),
         None => false,
+    }
+}
+
+// How the case begins whose first word this is, if it is one.
+pub(super) fn head_of(word: Word) -> Option<Head>
+    ensures { result ≡ head_in (kind word.entry.text.now) }
+{
+    match word.token() {
+        Some(Token::Keyword(Keyword::If, _)) => Some(Head::If),
+        Some(Token::Keyword(Keyword::While, _)) => Some(Head::While),
+        _ => None,
     }
 }
 
