@@ -170,9 +170,9 @@ Switches (Ok a) h p n c x d y =
 Switches (Err f) h p n c x d y = (k : Stack) (os : List Open) → entering c h p n k (open_read p (notes_of (source_of c) x) os) ≡ fault f.cause f.place
 
 -- a switch behind commands, whose first word is taken
-abbrev pub Goes_on : {A : Type 0} → Result A Fault → Head → ℕ → ℕ → Parser → Notes → Parser → Notes → Type 0
-Goes_on (Ok a) h p n c x d y = ((k : Stack) (os : List Open) → entering c h p n k (apply event.next_switch p (state c x os)) ≡ running d k (state d y os)) × (source_of c ≡ source_of d)
-Goes_on (Err f) h p n c x d y = (k : Stack) (os : List Open) → entering c h p n k (apply event.next_switch p (state c x os)) ≡ fault f.cause f.place
+abbrev pub GoesOn : {A : Type 0} → Result A Fault → Head → ℕ → ℕ → Parser → Notes → Parser → Notes → Type 0
+GoesOn (Ok a) h p n c x d y = ((k : Stack) (os : List Open) → entering c h p n k (apply event.next_switch p (state c x os)) ≡ running d k (state d y os)) × (source_of c ≡ source_of d)
+GoesOn (Err f) h p n c x d y = (k : Stack) (os : List Open) → entering c h p n k (apply event.next_switch p (state c x os)) ≡ fault f.cause f.place
 
 -- an item whose first word is taken
 abbrev pub Continues : {A : Type 0} → Result A Fault → Item → Given → Parser → Notes → Parser → Notes → Type 0

@@ -1,4 +1,4 @@
-//! From a source to a checked program, in one pass.
+//! From the words of a source to what is noted of its program, in one pass.
 #![tactic(auto)]
 
 mod parser;

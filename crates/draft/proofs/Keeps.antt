@@ -381,7 +381,7 @@ module _ (k : Known) (a : Letters) (cols : (c : ℕ) → is_column a c ≡ membe
 
 -- the blocks of a program without violations
 pub keeps_blocks : KeepsBlocks
-keeps_blocks (program ss m ms) None-found = finish
+keeps_blocks (program ss m ms) none_found = finish
   where
     t : Program
     t = program ss m ms
@@ -399,7 +399,7 @@ keeps_blocks (program ss m ms) None-found = finish
     others = alphabet_faults (0 ∷ []) cs 3 ++ names_faults [] (m ∷ ms) (modules_at t) ++ modules_faults (known t) (m ∷ ms) (modules_at t)
 
     few : limit_faults a.width 0 (drafts t) ≡ []
-    few = ap (λ w. limit_faults w 0 (drafts t)) l.1 ∙ nil_right others (limit_faults (length (columns cs)) 0 (drafts t)) (lowest_nil (faults t) None-found)
+    few = ap (λ w. limit_faults w 0 (drafts t)) l.1 ∙ nil_right others (limit_faults (length (columns cs)) 0 (drafts t)) (lowest_nil (faults t) none_found)
 
     y : Draft
     y = modules_noted a (m ∷ ms) (modules_at t) (empty_draft a)

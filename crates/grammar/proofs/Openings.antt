@@ -12,7 +12,7 @@ use Rattle.grammar.specs.Laws.{IsTooDeep}
 use Rattle.grammar.specs.Openings.{zeros, module_openings, modules_openings, openings, greatest, FirstTooDeep, CountsDepth, TellsCase}
 use Rattle.grammar.proofs.Items.{fill_words, fill_depth, fill_openings, stack_around}
 use Rattle.grammar.proofs.Stacks.{made_words, made_openings, next_opens, next_around, rest_of, by_step, never_empty}
-use Rattle.grammar.proofs.Sound.{Goes_on, TooDeep, begun, further_within, back, back_within, too_deep_later, allowed_here, too_deep_here}
+use Rattle.grammar.proofs.Sound.{GoesOn, TooDeep, begun, further_within, back, back_within, too_deep_later, allowed_here, too_deep_here}
 use Rattle.grammar.proofs.Programs.{fill_of, as_program_of, program_words, fill_of_words, fill_of_depth, is_too_deep, too_deep_of}
 
 -- one opening for each word, and the greatest is the depth
@@ -47,7 +47,7 @@ Opens st ws i = (t : Fill st) × (rest : List Text) × (fill_words st t ≡ take
 opens_here : (st : Stack) (w : Text) (ws : List Text) (m : Transition (top st)) → step (top st) w ≡ some m → stack_around st ≤ depth_limit → TooDeep st (w ∷ ws) 0 → Opens st (w ∷ ws) 0
 opens_here st w ws m q a d = go (cases_lt depth_limit m.opens) (allowed_here st w m q)
   where
-    go : (depth_limit < m.opens) ⊎ (m.opens ≤ depth_limit) → Goes_on st (w ∷ []) → Opens st (w ∷ ws) 0
+    go : (depth_limit < m.opens) ⊎ (m.opens ≤ depth_limit) → GoesOn st (w ∷ []) → Opens st (w ∷ ws) 0
     go (inr l) g = absurd (d.too_deep (further_within st w m q l [] (begun (after st m))))
     go (inl l) (t, rest, p) =
         let here : m.opens ≡ suc depth_limit = omega (arith, next_opens st w m q) in

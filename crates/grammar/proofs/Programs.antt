@@ -9,7 +9,7 @@ use Rattle.grammar.specs.Automaton.{Fill, Reading, parsed, unexpected, too_deep,
 use Rattle.grammar.specs.Places.{texts, place_of}
 use Rattle.grammar.specs.Laws.{Viable, ViableWithinLimit, IsParse, IsFault, IsTooDeep, Unambiguous}
 use Rattle.grammar.proofs.Items.{fill_words, fill_depth}
-use Rattle.grammar.proofs.Sound.{Goes_on, GoesOnWithin, Fault, TooDeep, Holds, read_holds, one_fill}
+use Rattle.grammar.proofs.Sound.{GoesOn, GoesOnWithin, Fault, TooDeep, Holds, read_holds, one_fill}
 
 -- the trees of a program
 abbrev pub fill_of : Program → Fill start
@@ -39,10 +39,10 @@ unambiguous t u e =
     sym (as_program_of t) ∙ ap as_program same ∙ as_program_of u
 
 -- what goes on, as programs and as trees
-viable : (ps : List Text) → Goes_on start ps → Viable ps
+viable : (ps : List Text) → GoesOn start ps → Viable ps
 viable ps (t, rest, e) = (as_program t, rest, program_words t ∙ e)
 
-goes_on : (ps : List Text) → Viable ps → Goes_on start ps
+goes_on : (ps : List Text) → Viable ps → GoesOn start ps
 goes_on ps (t, rest, e) = (fill_of t, rest, fill_of_words t ∙ e)
 
 viable_within : (ps : List Text) → GoesOnWithin start ps → ViableWithinLimit ps

@@ -12,8 +12,8 @@ use Rattle.grammar.proofs.Items.{fill_words, item_depth, fill_depth}
 use Rattle.grammar.proofs.Stacks.{made_words, made_depth, refused, taken, rest_of, by_step, never_empty}
 
 -- some trees go on after these words
-abbrev pub Goes_on : Stack → List Text → Type 0
-Goes_on st ps = (t : Fill st) × (rest : List Text) × (fill_words st t ≡ ps ++ rest)
+abbrev pub GoesOn : Stack → List Text → Type 0
+GoesOn st ps = (t : Fill st) × (rest : List Text) × (fill_words st t ≡ ps ++ rest)
 
 -- some trees with no case too deep go on after these words
 abbrev pub GoesOnWithin : Stack → List Text → Type 0
@@ -23,14 +23,14 @@ GoesOnWithin st ps = (t : Fill st) × (rest : List Text) × (fill_words st t ≡
 pub record Fault (st : Stack) (ws : List Text) (i : ℕ) : Type 0 where
   pub within : i ≤ length ws
   pub before : GoesOnWithin st (take i ws)
-  pub at_word : i < length ws → ¬ Goes_on st (take (suc i) ws)
+  pub at_word : i < length ws → ¬ GoesOn st (take (suc i) ws)
   pub at_end : i ≡ length ws → (t : Fill st) → ¬ (fill_words st t ≡ ws)
 
 -- the word numbered i begins the first case too deep
 pub record TooDeep (st : Stack) (ws : List Text) (i : ℕ) : Type 0 where
   pub within : i < length ws
   pub before : GoesOnWithin st (take i ws)
-  pub allowed : Goes_on st (take (suc i) ws)
+  pub allowed : GoesOn st (take (suc i) ws)
   pub too_deep : ¬ GoesOnWithin st (take (suc i) ws)
 
 -- what an answer says of words with places
@@ -68,14 +68,14 @@ pub begun : (st : Stack) → GoesOnWithin st []
 begun st = let f = some_fill st in (f.0, fill_words st f.0, refl, f.1)
 
 -- one word further
-pub further : (st : Stack) (w : Text) (m : Transition (top st)) → step (top st) w ≡ some m → (ps : List Text) → Goes_on (after st m) ps → Goes_on st (w ∷ ps)
+pub further : (st : Stack) (w : Text) (m : Transition (top st)) → step (top st) w ≡ some m → (ps : List Text) → GoesOn (after st m) ps → GoesOn st (w ∷ ps)
 further st w m q ps (u, rest, p) = (made st m u, rest, made_words st w m q u ∙ ap (λ (r : List Text). w ∷ r) p)
 
 pub further_within : (st : Stack) (w : Text) (m : Transition (top st)) → step (top st) w ≡ some m → m.opens ≤ depth_limit → (ps : List Text) → GoesOnWithin (after st m) ps → GoesOnWithin st (w ∷ ps)
 further_within st w m q l ps (u, rest, p, h) = (made st m u, rest, made_words st w m q u ∙ ap (λ (r : List Text). w ∷ r) p, omega (arith, made_depth st w m q u))
 
 -- and back
-pub back : (st : Stack) (w : Text) (m : Transition (top st)) → step (top st) w ≡ some m → (ps : List Text) → Goes_on st (w ∷ ps) → Goes_on (after st m) ps
+pub back : (st : Stack) (w : Text) (m : Transition (top st)) → step (top st) w ≡ some m → (ps : List Text) → GoesOn st (w ∷ ps) → GoesOn (after st m) ps
 back st w m q ps (t, rest, p) = let r = rest_of st w m q t (ps ++ rest) p in (r.fill, rest, r.words)
 
 pub back_within : (st : Stack) (w : Text) (m : Transition (top st)) → step (top st) w ≡ some m → (ps : List Text) → GoesOnWithin st (w ∷ ps) → (m.opens ≤ depth_limit) × GoesOnWithin (after st m) ps
@@ -109,7 +109,7 @@ unexpected_here : (e : ℕ) (st : Stack) (w : Word) (ws : List Word) → step (t
 unexpected_here e st w ws q = (0, record { within = zero-le; before = begun st; at_word = λ k g. refused st w.text q g.0 g.1 g.2; at_end = λ k. absurd (omega arith) }, refl)
 
 -- some trees go on after a word that may come
-pub allowed_here : (st : Stack) (w : Text) (m : Transition (top st)) → step (top st) w ≡ some m → Goes_on st (w ∷ [])
+pub allowed_here : (st : Stack) (w : Text) (m : Transition (top st)) → step (top st) w ≡ some m → GoesOn st (w ∷ [])
 allowed_here st w m q = let u = (some_fill (after st m)).0 in further st w m q [] (u, fill_words (after st m) u, refl)
 
 -- a word that begins a case too deep

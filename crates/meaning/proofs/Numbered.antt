@@ -275,7 +275,7 @@ current_settled : (at' : Text → ℕ) (c : ℕ) (k : Kind Text) → current (se
 current_settled at' c (basic b) = refl
 current_settled at' c (switch as') = arm_settled at' c as'
 
-module _ (t : Program) (cols : List ℕ) (ns : List Text) (n : ℕ) (Known-start : (w : Text) → named w ns ≡ true → nth (points t) (start t w) ≡ Some (named_start (all_modules t) w)) where
+module _ (t : Program) (cols : List ℕ) (ns : List Text) (n : ℕ) (known_start : (w : Text) → named w ns ≡ true → nth (points t) (start t w) ≡ Some (named_start (all_modules t) w)) where
   arm_known : (as' : List (ℕ × Basic Text)) (c : ℕ) → Each (λ (a : ℕ × Basic Text). BasicWithin cols ns n a.1) as' → ThenWithin ns n (arm_of as' c).then
   arm_known [] c w = tt
   arm_known (a ∷ others) c w = by (eqb c a.0) (arm_known others c w.1)
@@ -298,7 +298,7 @@ module _ (t : Program) (cols : List ℕ) (ns : List Text) (n : ℕ) (Known-start
   next_same q s rejecting (at s') e w h = absurd h
   next_same q s rejecting accepts e w h = absurd h
   next_same q s rejecting rejects e w h = tt
-  next_same q s (jump m) (at s') e w h = Known-start m w ∙ ap Some (sym h)
+  next_same q s (jump m) (at s') e w h = known_start m w ∙ ap Some (sym h)
   next_same q s (jump m) accepts e w h = absurd h
   next_same q s (jump m) rejects e w h = absurd h
   next_same q s (next r) (at s') e w h = h

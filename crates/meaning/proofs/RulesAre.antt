@@ -509,9 +509,9 @@ flag_ruled : (b : Bool) (n : Cause) → Ruled n → Each Ruled (flagged b n)
 flag_ruled true n r = (r, tt)
 flag_ruled false n r = tt
 
-symbols_ruled : (cols seen cs : List ℕ) → Each Ruled (symbol_causes cols seen cs)
-symbols_ruled cols seen [] = tt
-symbols_ruled cols seen (c ∷ cs) = each-++ Ruled (cond (member c cols) (flagged (member c seen) Repeated) (Letter ∷ [])) (symbol_causes cols (c ∷ seen) cs) (by (member c cols)) (symbols_ruled cols (c ∷ seen) cs)
+symbols_ruled : (known seen cs : List ℕ) → Each Ruled (symbol_causes known seen cs)
+symbols_ruled known seen [] = tt
+symbols_ruled known seen (c ∷ cs) = each-++ Ruled (cond (member c known) (flagged (member c seen) Repeated) (Letter ∷ [])) (symbol_causes known (c ∷ seen) cs) (by (member c known)) (symbols_ruled known (c ∷ seen) cs)
   where
     by : (b : Bool) → Each Ruled (cond b (flagged (member c seen) Repeated) (Letter ∷ []))
     by true = flag_ruled (member c seen) Repeated refl

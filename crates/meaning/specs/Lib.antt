@@ -7,6 +7,7 @@ pub mod Rules
 pub mod Tables
 pub mod Runs
 pub mod Equal
+pub mod Equality
 pub mod Endless
 pub mod Language
 pub mod TuringMachine

@@ -1,6 +1,7 @@
 ghost use Rattle.std.specs.Prelude.{◌≡◌, Decides};
 ghost use Rattle.std.specs.Cmp.{partial_equiv_from_equiv};
-ghost use Rattle.meaning.specs.Equal.{same_answer, same_answer_laws};
+ghost use Rattle.meaning.specs.Equal.{same_answer};
+ghost use Rattle.meaning.specs.Equality.{same_answer_laws};
 
 use crate::refusals::Refusal;
 use tape::kinds::Direction;
@@ -61,7 +62,7 @@ pub enum Answer {
     Shown([u8; 15]),
 }
 
-// By hand, so that a bug in it can be planted: a derived `==` decides the same.
+// By hand: a must-fail edit turns a line of it.
 impl PartialEq for Answer {
     ghost eq = { same_answer };
 

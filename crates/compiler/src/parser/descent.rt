@@ -1,7 +1,7 @@
 // The descent: a function for each rule of the grammar, which notes what it reads.
 ghost use Rattle.std.specs.Prelude.{◌≡◌, ◌-◌, ◌≤◌, [], ◌∷◌, length};
 ghost use Rattle.events.specs.Descent.{a_letter, letters_end, a_written, a_direction, a_symbol, symbols_end, once_end, move_end, body_end, acted_end};
-ghost use Rattle.compiler.specs.Reading.{rest, Reads, ReadsIn, last_move, target_end, Finishes, Continues, Goes_on, Switches, Enters};
+ghost use Rattle.compiler.specs.Reading.{rest, Reads, ReadsIn, last_move, target_end, Finishes, Continues, GoesOn, Switches, Enters};
 
 use super::lexemes::unexpected;
 use super::{Head, Parser};
@@ -219,7 +219,7 @@ impl<'a> Parser<'a> {
     ) -> Result<(), Fault>
         requires { remaining ≤ 16 }
         ensures fewer { length (rest self.new) ≤ length (rest self.old) }
-        ensures reads { Goes_on result head place (16 - remaining) self.old out.old self.new out.new }
+        ensures reads { GoesOn result head place (16 - remaining) self.old out.old self.new out.new }
     {
         let number = out.next_number();
         out.finish(Then::Next(number));
