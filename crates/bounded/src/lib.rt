@@ -1,3 +1,4 @@
 #![tactic(auto)]
 
+pub mod inline;
 pub mod list;
