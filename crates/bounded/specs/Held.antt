@@ -1,5 +1,5 @@
 -- What a bounded list holds, and what each operation makes of that.
-use Rattle.std.specs.Prelude.{ℕ, ◌+◌, ◌-◌, Bool, cond, List, [], ◌∷◌, ◌++◌, length, take, drop, Ok, Err, Option, Result, nat_le, slice_set}
+use Rattle.std.specs.Prelude.{◌≡◌, ℕ, ◌+◌, ◌-◌, Bool, cond, List, [], ◌∷◌, ◌++◌, length, take, drop, Ok, Err, Option, Result, nat_le, slice_set}
 use Rattle.std.specs.List.{slice_get}
 use Rattle.bounded.specs.declared.list.BoundedList.{BoundedList}
 use Rattle.bounded.specs.declared.list.Full.{Full}
@@ -14,6 +14,11 @@ module _ {T : Type 0} where
   -- what a list in memory holds
   abbrev pub held : BoundedList T → Held T
   held l = record { before = take l.front l.records.now; after = drop l.back l.records.now; capacity = length l.records.now }
+
+  -- what a call makes of a list: it holds this, in the memory that it had
+  pub record Becomes (before after : BoundedList T) (h : Held T) : Type 0 where
+    pub held : held after ≡ h
+    pub lent : after.records.ghost_name ≡ before.records.ghost_name
 
   -- nothing, with room for so many records
   abbrev pub emptied : ℕ → Held T

@@ -5,7 +5,8 @@ use std::alloc::AllocError;
 
 pub mod operations;
 
-// At most `N` items. The array behind them is whole from the start, so that a copy of the value is a copy of the list.
+// At most `N` items. The array behind them is whole from the start, so that a copy of the value is a copy of the list: the kit's `ArrayVec` is
+// not `Copy`, as alphabets, words, blocks and symbols of a case are.
 #[derive(Drop)]
 pub struct InlineList<T, const N: usize> {
     items: [T; N],

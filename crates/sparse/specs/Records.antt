@@ -1,6 +1,8 @@
 -- Records of nonblank cells: the codes that they stand for, and their order.
-use Rattle.std.specs.Prelude.{ℕ, ◌+◌, ◌<◌, ◌≤◌, Bool, false, cond, ◌&&◌, List, [], ◌∷◌, map, Some, None, Option, ◌==◌, nat_le, nat_lt}
+use Rattle.std.specs.Prelude.{ℕ, ◌+◌, ◌<◌, ◌≤◌, Bool, false, cond, List, [], ◌∷◌, map, Some, None, Option, ◌==◌}
+use Rattle.std.proofs.Props.{props}
 use Rattle.std.specs.List.{range_with_len}
+use Rattle.bounded.specs.Held.{Held}
 use Rattle.tape.specs.Meaning.{Meaning}
 use Rattle.sparse.specs.declared.record.NonblankCell.{NonblankCell}
 
@@ -18,10 +20,25 @@ abbrev pub Rising : ℕ → ℕ → List NonblankCell → Type 0
 Rising low high [] = low ≤ high
 Rising low high (r ∷ rs) = (low ≤ r.cell) × (0 < r.code) × (r.code ≤ 36) × Rising (r.cell + 1) high rs
 
--- the same as a test
-abbrev pub rising : ℕ → ℕ → List NonblankCell → Bool
-rising low high [] = nat_le low high
-rising low high (r ∷ rs) = nat_le low r.cell && (nat_lt 0 r.code && (nat_le r.code 36 && rising (r.cell + 1) high rs))
+-- records in the order of their cells
+abbrev pub InOrder : List NonblankCell → Type 0
+InOrder rs = (low : ℕ) × (high : ℕ) × Rising low high rs
+
+-- such a fact has one proof at most, and so has what a tape keeps: a struct may hold it
+pub rising_prop : (low high : ℕ) (rs : List NonblankCell) → IsProp (Rising low high rs)
+rising_prop low high [] = hlevel props
+rising_prop low high (r ∷ rs) = let rest = rising_prop (r.cell + 1) high rs in hlevel (props, rest)
+
+-- what a tape of n cells with its head at h keeps of its list: the records left of the head stand before the cursor
+pub record Kept (n h : ℕ) (l : Held NonblankCell) : Type 0 where
+  pub here : h < n
+  pub most : n ≤ 4096
+  pub room : l.capacity ≤ n
+  pub left : Rising 0 h l.before
+  pub right : Rising h n l.after
+
+pub kept_prop : (n h : ℕ) (l : Held NonblankCell) → IsProp (Kept n h l)
+kept_prop n h l = hlevel (props, rising_prop)
 
 -- is this the record of the cell?
 abbrev pub stands : Option NonblankCell → ℕ → Bool

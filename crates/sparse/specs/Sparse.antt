@@ -1,8 +1,8 @@
 -- A tape with a record for each nonblank cell: what it means, and what it can be made of.
-use Rattle.std.specs.Prelude.{ℕ, ◌≤◌, Bool, cond, ◌&&◌, length, replicate, Ok, Err, Result, nat_le, nat_lt}
+use Rattle.std.specs.Prelude.{ℕ, ◌≤◌, Bool, cond, ◌&&◌, replicate, Ok, Err, Result, nat_le, nat_lt}
 use Rattle.std.proofs.Common.{arith}
-use Rattle.std.proofs.lemmas.List.{length-append, length-take-le, length-drop}
-use Rattle.bounded.specs.Held.{held, all}
+use Rattle.std.proofs.lemmas.List.{length-take-le, length-drop}
+use Rattle.bounded.specs.Held.{held, all, count}
 use Rattle.tape.specs.declared.kinds.TapeRefusal.{TapeRefusal}
 use Rattle.tape.specs.declared.kinds.TapeRefusal.TheVariants.{Shape}
 use Rattle.tape.specs.Meaning.{Meaning, Valid}
@@ -28,11 +28,6 @@ sparse_check k n h = cond (sparse_fits k n h) (Ok tt) (Err Shape)
 pub sparse_sound : (t : SparseTape) → Valid (sparse t)
 sparse_sound t =
     let l = t.records.now in
-    let h = held l in
-    let joined = length-append h.before h.after in
-    let apart = l.apart in
-    let inside = l.inside in
     let front = length-take-le l.front l.records.now (omega arith) in
-    let back = length-drop l.back l.records.now in
-    let few : length (all h) ≤ h.capacity = omega arith in
-    sound h.capacity t.size h.before h.after t.head t.here t.most t.room few t.left t.right
+    let few : count (held l) ≤ (held l).capacity = simp length-drop (omega arith) in
+    sound t.size t.head (held l) t.kept few

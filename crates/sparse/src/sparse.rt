@@ -1,24 +1,20 @@
 // A tape that keeps a record for each nonblank cell only.
-ghost use Rattle.std.specs.Prelude.{◌≡◌, ◌<◌, ◌≤◌, true};
 ghost use Rattle.bounded.specs.Held.{held};
-ghost use Rattle.sparse.specs.Records.{rising};
+ghost use Rattle.sparse.specs.Records.{Kept, kept_prop};
 
 use crate::record::NonblankCell;
 use bounded::list::BoundedList;
 
 pub mod operations;
 
-// The records stand in the order of their cells, in a list that is lent: those of cells left of
-// the head before the list's cursor, those at the head and right of it after. So a put and a
-// shift touch only the records next to the cursor.
+// The records stand in the order of their cells, in a list: those of cells left of the head before
+// the list's cursor, those at the head and right of it after. So a put and a shift touch only the
+// records next to the cursor. The list is lent, and not held by value, since who makes a tape may
+// have no more than a `&mut` to one.
 #[derive(Drop)]
 pub struct SparseTape<'b, 'a> {
     records: &'b mut BoundedList<'a, NonblankCell>,
     size: usize,
     head: usize,
-    ghost here: { head < size },
-    ghost most: { size ≤ 4096 },
-    ghost room: { (held records.now).capacity ≤ size },
-    ghost left: { rising 0 head (held records.now).before ≡ true },
-    ghost right: { rising head size (held records.now).after ≡ true },
+    ghost kept: { Kept size head (held records.now) } by { kept_prop size head (held records.now) },
 }

@@ -1,6 +1,7 @@
 -- A tape with one byte a cell: what it means, and what it can be made of.
-use Rattle.std.specs.Prelude.{ℕ, suc, ◌+◌, ◌≤◌, Bool, true, false, cond, ◌&&◌, List, [], ◌∷◌, length, Ok, Err, Result, ◌==◌, nat_le, nat_lt}
+use Rattle.std.specs.Prelude.{ℕ, ◌≤◌, Bool, cond, ◌&&◌, List, [], ◌∷◌, length, Ok, Err, Result, nat_le, nat_lt}
 use Rattle.std.proofs.Common.{arith}
+use Rattle.std.proofs.lemmas.Bool.Decides.{nat_tests}
 use Rattle.tape.specs.declared.dense.DenseTape.{DenseTape}
 use Rattle.tape.specs.declared.kinds.TapeRefusal.{TapeRefusal}
 use Rattle.tape.specs.declared.kinds.TapeRefusal.TheVariants.{Shape}
@@ -23,9 +24,7 @@ dense_check cs h = cond (dense_fits cs h) (Ok tt) (Err Shape)
 -- no more cells are nonblank than there are
 pub nonblank_most : (cs : List ℕ) → nonblank cs ≤ length cs
 nonblank_most [] = omega arith
-nonblank_most (c ∷ cs) =
-    let rest : nonblank cs ≤ length cs = nonblank_most cs in
-    elim (c == 0) as (λ b. cond b (nonblank cs) (1 + nonblank cs) ≤ suc (length cs)) [ true ↦ omega arith | false ↦ omega arith ]
+nonblank_most (c ∷ cs) = let rest : nonblank cs ≤ length cs = nonblank_most cs in grind (arith, nat_tests)
 
 pub dense_sound : (t : DenseTape) → Valid (dense t)
 dense_sound t =

@@ -1,5 +1,6 @@
 -- What a tape means, and what each call answers and does to that, on every meaning.
 use Rattle.std.specs.Prelude.{◌≡◌, ℕ, ◌+◌, ◌-◌, ◌<◌, ◌≤◌, Bool, true, cond, not, ◌&&◌, List, [], ◌∷◌, length, ℤ, pos, negsuc, ◌+ℤ◌, Some, None, Ok, Err, Option, Result, ◌==◌, nat_le, nat_lt, slice_index, slice_set}
+use Rattle.std.specs.List.{list_all}
 use Rattle.tape.specs.declared.kinds.Direction.{Direction}
 use Rattle.tape.specs.declared.kinds.Direction.TheVariants.{Left, Right}
 use Rattle.tape.specs.declared.kinds.TapeRefusal.{TapeRefusal}
@@ -21,8 +22,7 @@ nonblank (c ∷ cs) = cond (c == 0) (nonblank cs) (1 + nonblank cs)
 
 -- each code is at most 36
 abbrev pub all_codes : List ℕ → Bool
-all_codes [] = true
-all_codes (c ∷ cs) = nat_le c 36 && all_codes cs
+all_codes cs = list_all (λ c. nat_le c 36) cs
 
 -- what every tape keeps
 pub record Valid (m : Meaning) : Type 0 where
@@ -68,6 +68,11 @@ unless_refused (Err _) before after = before
 
 abbrev pub put_after : Meaning → ℕ → Meaning
 put_after m c = unless_refused (put_answer m c) m (written m c)
+
+-- the distance of the cell that a head goes to
+abbrev pub step_of : Direction → ℤ
+step_of Left = negsuc 0
+step_of Right = pos 1
 
 -- shift: the answer, and the tape after it
 abbrev pub at_end : Meaning → Direction → Bool

@@ -23,9 +23,5 @@ pub fn shown_byte(cell: Option<u8>) -> u8
 pub fn display<T: Tape>(tape: &T) -> [u8; WIDTH]
     ensures { result ≡ displayed (T.Tape.meaning tape.now) }
 {
-    let mut bytes = [b' '; WIDTH];
-    for i in 0..WIDTH {
-        bytes[i] = shown_byte(tape.look(i as i32 - LEFT_OF_HEAD));
-    }
-    bytes
+    std::array::from_fn(|i| shown_byte(tape.look(i as i32 - LEFT_OF_HEAD)))
 }

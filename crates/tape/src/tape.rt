@@ -13,7 +13,8 @@ pub trait Tape {
     // what each implementation proves: a tape that exists is in range
     ghost sound: { (t : Self) → Valid (meaning t) };
 
-    // the ghost names of the references to the memory that was lent, which no call changes
+    // the ghost names of the references to the memory that was lent, which no call changes: each call says so by itself, and what is built on
+    // tapes with it, as a trait has no clause for all its calls
     ghost lent: { Self → List ℕ };
 
     // The code at a signed distance from the head, or nothing where there is no cell.

@@ -1,6 +1,6 @@
-ghost use Rattle.std.specs.Prelude.{◌≡◌, ◌+◌, ◌-◌, length};
+ghost use Rattle.std.specs.Prelude.{◌≡◌, length};
 ghost use Rattle.std.specs.List.{slice_get};
-ghost use Rattle.bounded.specs.Held.{held, emptied, all, count, next_of, previous_of, room_answer, pushed, inserted, deleted, replaced, forwarded, backed};
+ghost use Rattle.bounded.specs.Held.{Becomes, held, emptied, all, count, next_of, previous_of, room_answer, pushed, inserted, deleted, replaced, forwarded, backed};
 
 use crate::list::{BoundedList, Full};
 
@@ -18,16 +18,12 @@ impl<'a, T: Copy> BoundedList<'a, T> {
         }
     }
 
-    // Gives the memory back, as it is.
+    // Gives the memory back, as it is. Each type that is lent memory has such a call of its own: a trait would leave the same line to each.
     pub fn into_memory(self) -> &'a mut [T]
         ensures memory { result.now ≡ self.entry.records.now }
         ensures lent { result.ghost_name ≡ self.entry.records.ghost_name }
     {
-        let BoundedList {
-            records,
-            front: _,
-            back: _,
-        } = self;
+        let BoundedList { records, .. } = self;
         records
     }
 
@@ -42,7 +38,7 @@ impl<'a, T: Copy> BoundedList<'a, T> {
     pub fn len(&self) -> usize
         ensures { result ≡ count (held self.now) }
     {
-        self.front + (self.capacity() - self.back)
+        self.cursor() + self.after().len()
     }
 
     // How many records stand before the cursor.
@@ -56,13 +52,10 @@ impl<'a, T: Copy> BoundedList<'a, T> {
     pub fn get(&self, index: usize) -> Option<T>
         ensures { result ≡ slice_get (all (held self.now)) index }
     {
-        let records: &[T] = &*self.records;
         if index < self.front {
-            Some(records[index])
-        } else if index - self.front < records.len() - self.back {
-            Some(records[self.back + (index - self.front)])
+            self.before().get(index).copied()
         } else {
-            None
+            self.after().get(index - self.front).copied()
         }
     }
 
@@ -70,7 +63,7 @@ impl<'a, T: Copy> BoundedList<'a, T> {
     pub fn before(&self) -> &[T]
         ensures { result.now ≡ (held self.now).before }
     {
-        &self.records[0..self.front]
+        &self.records[..self.front]
     }
 
     // The records after the cursor.
@@ -84,30 +77,19 @@ impl<'a, T: Copy> BoundedList<'a, T> {
     pub fn next(&self) -> Option<T>
         ensures { result ≡ next_of (held self.now) }
     {
-        let records: &[T] = &*self.records;
-        if self.back < records.len() {
-            Some(records[self.back])
-        } else {
-            None
-        }
+        self.after().first().copied()
     }
 
     // The record right before the cursor.
     pub fn previous(&self) -> Option<T>
         ensures { result ≡ previous_of (held self.now) }
     {
-        let records: &[T] = &*self.records;
-        if 0 < self.front {
-            Some(records[self.front - 1])
-        } else {
-            None
-        }
+        self.before().last().copied()
     }
 
     // Takes all records out.
     pub fn clear(&mut self)
-        ensures held { held self.new ≡ emptied (held self.old).capacity }
-        ensures lent { self.new.records.ghost_name ≡ self.old.records.ghost_name }
+        ensures { Becomes self.old self.new (emptied (held self.old).capacity) }
     {
         self.front = 0;
         self.back = self.capacity();
@@ -116,25 +98,22 @@ impl<'a, T: Copy> BoundedList<'a, T> {
     // One more record, right before the cursor.
     pub fn push(&mut self, record: T) -> Result<(), Full>
         ensures answer { result ≡ room_answer (held self.old) }
-        ensures held { held self.new ≡ pushed (held self.old) «record» }
-        ensures lent { self.new.records.ghost_name ≡ self.old.records.ghost_name }
+        ensures after { Becomes self.old self.new (pushed (held self.old) «record») }
     {
-        let front = self.front;
-        if front >= self.back {
+        if self.front == self.back {
             return Err(Full);
         }
-        self.records[front] = record;
-        self.front = front + 1;
+        self.records[self.front] = record;
+        self.front += 1;
         Ok(())
     }
 
     // One more record, right after the cursor.
     pub fn insert(&mut self, record: T) -> Result<(), Full>
         ensures answer { result ≡ room_answer (held self.old) }
-        ensures held { held self.new ≡ inserted (held self.old) «record» }
-        ensures lent { self.new.records.ghost_name ≡ self.old.records.ghost_name }
+        ensures after { Becomes self.old self.new (inserted (held self.old) «record») }
     {
-        if self.front >= self.back {
+        if self.front == self.back {
             return Err(Full);
         }
         let last_free = self.back - 1;
@@ -146,51 +125,44 @@ impl<'a, T: Copy> BoundedList<'a, T> {
     // Takes the record right after the cursor out, and answers it.
     pub fn delete(&mut self) -> Option<T>
         ensures answer { result ≡ next_of (held self.old) }
-        ensures held { held self.new ≡ deleted (held self.old) }
-        ensures lent { self.new.records.ghost_name ≡ self.old.records.ghost_name }
+        ensures after { Becomes self.old self.new (deleted (held self.old)) }
     {
-        let next = self.next()?;
+        let deleted = self.next()?;
         self.back += 1;
-        Some(next)
+        Some(deleted)
     }
 
     // Writes over the record right after the cursor, and answers the old one.
     pub fn replace(&mut self, record: T) -> Option<T>
         ensures answer { result ≡ next_of (held self.old) }
-        ensures held { held self.new ≡ replaced (held self.old) «record» }
-        ensures lent { self.new.records.ghost_name ≡ self.old.records.ghost_name }
+        ensures after { Becomes self.old self.new (replaced (held self.old) «record») }
     {
-        let next = self.next()?;
-        let at = self.back;
-        self.records[at] = record;
-        Some(next)
+        let replaced = self.next()?;
+        self.records[self.back] = record;
+        Some(replaced)
     }
 
     // Moves the cursor on over the next record, and answers it.
     pub fn forward(&mut self) -> Option<T>
         ensures answer { result ≡ next_of (held self.old) }
-        ensures held { held self.new ≡ forwarded (held self.old) }
-        ensures lent { self.new.records.ghost_name ≡ self.old.records.ghost_name }
+        ensures after { Becomes self.old self.new (forwarded (held self.old)) }
     {
         let next = self.next()?;
-        let to = self.front;
-        self.records[to] = next;
-        self.front = to + 1;
-        self.back = self.back + 1;
+        self.records[self.front] = next;
+        self.front += 1;
+        self.back += 1;
         Some(next)
     }
 
     // Moves the cursor back over the previous record, and answers it.
     pub fn backward(&mut self) -> Option<T>
         ensures answer { result ≡ previous_of (held self.old) }
-        ensures held { held self.new ≡ backed (held self.old) }
-        ensures lent { self.new.records.ghost_name ≡ self.old.records.ghost_name }
+        ensures after { Becomes self.old self.new (backed (held self.old)) }
     {
         let previous = self.previous()?;
-        let back = self.back - 1;
-        self.records[back] = previous;
         self.front -= 1;
-        self.back = back;
+        self.back -= 1;
+        self.records[self.back] = previous;
         Some(previous)
     }
 }

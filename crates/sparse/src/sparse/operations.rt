@@ -1,6 +1,6 @@
 ghost use Rattle.std.specs.Prelude.{◌≡◌, true, [], ◌∷◌};
 ghost use Rattle.bounded.specs.Held.{held};
-ghost use Rattle.sparse.specs.Records.{rising, code_at, stands};
+ghost use Rattle.sparse.specs.Records.{InOrder, code_at, stands};
 ghost use Rattle.sparse.specs.Sparse.{sparse, blank_tape, sparse_fits, sparse_check, sparse_sound};
 
 use crate::record::NonblankCell;
@@ -46,16 +46,12 @@ impl<'b, 'a> SparseTape<'b, 'a> {
         }
     }
 
-    // Gives the list back, with its records as they are.
+    // Gives the list back, with its records as they are. No trait has this call, since it would leave the same line to each type.
     pub fn into_records(self) -> &'b mut BoundedList<'a, NonblankCell>
         ensures records { result.now ≡ self.entry.records.now }
         ensures lent { result.ghost_name ≡ self.entry.records.ghost_name }
     {
-        let SparseTape {
-            records,
-            size: _,
-            head: _,
-        } = self;
+        let SparseTape { records, .. } = self;
         records
     }
 }
@@ -84,42 +80,34 @@ impl<'b, 'a> Tape for SparseTape<'b, 'a> {
             cell: self.head as u16,
             code,
         };
-        if is_at(self.records.next(), self.head) {
-            if code == BLANK {
-                let _ = self.records.delete();
-            } else {
-                let _ = self.records.replace(record);
+        match (is_at(self.records.next(), self.head), code) {
+            (true, BLANK) => {
+                self.records.delete();
             }
-            Ok(())
-        } else if code == BLANK {
-            Ok(())
-        } else {
-            match self.records.insert(record) {
-                Ok(()) => Ok(()),
-                Err(_) => Err(TapeRefusal::Capacity),
+            (true, _) => {
+                self.records.replace(record);
             }
+            (false, BLANK) => {}
+            (false, _) => self
+                .records
+                .insert(record)
+                .map_err(|_| TapeRefusal::Capacity)?,
         }
+        Ok(())
     }
 
     fn shift(&mut self, direction: Direction) -> Result<(), TapeRefusal> {
+        let from = self.head;
+        self.head = reach(self.size, from, direction.step()).ok_or(TapeRefusal::Edge)?;
         match direction {
             Direction::Left => {
-                if self.head == 0 {
-                    return Err(TapeRefusal::Edge);
-                }
-                self.head -= 1;
                 if is_at(self.records.previous(), self.head) {
-                    let _ = self.records.backward();
+                    self.records.backward();
                 }
             }
             Direction::Right => {
-                if self.head + 1 >= self.size {
-                    return Err(TapeRefusal::Edge);
-                }
-                let left = self.head;
-                self.head = left + 1;
-                if is_at(self.records.next(), left) {
-                    let _ = self.records.forward();
+                if is_at(self.records.next(), from) {
+                    self.records.forward();
                 }
             }
         }
@@ -131,24 +119,18 @@ impl<'b, 'a> Tape for SparseTape<'b, 'a> {
 fn is_at(record: Option<NonblankCell>, cell: usize) -> bool
     ensures { result ≡ stands «record» cell }
 {
-    match record {
-        Some(nonblank) => nonblank.cell as usize == cell,
-        None => false,
-    }
+    record.is_some_and(|nonblank| nonblank.cell as usize == cell)
 }
 
-// The code of a cell by records in the order of their cells: blank where it has none.
+// The code of a cell by records in the order of their cells: blank where it has none. It goes one by one from the front,
+// and stops at the cell: at the head it looks at one record, where a binary search would look at several.
 fn find(records: &[NonblankCell], cell: usize) -> u8
-    requires { rising 0 4096 records.now ≡ true }
+    requires { InOrder records.now }
     ensures { result ≡ code_at records.now cell }
 {
-    for record in records {
-        if record.cell as usize == cell {
-            return record.code;
-        }
-        if record.cell as usize > cell {
-            return BLANK;
-        }
-    }
-    BLANK
+    records
+        .iter()
+        .find(|record| record.cell as usize >= cell)
+        .filter(|record| record.cell as usize == cell)
+        .map_or(BLANK, |record| record.code)
 }

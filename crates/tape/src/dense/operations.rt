@@ -29,12 +29,12 @@ impl<'a> DenseTape<'a> {
         DenseTape { cells, head }
     }
 
-    // Gives the memory back, with the cells as they are.
+    // Gives the memory back, with the cells as they are. No trait has this call, since it would leave the same line to each type.
     pub fn into_memory(self) -> &'a mut [u8]
         ensures memory { result.now ≡ self.entry.cells.now }
         ensures lent { result.ghost_name ≡ self.entry.cells.ghost_name }
     {
-        let DenseTape { cells, head: _ } = self;
+        let DenseTape { cells, .. } = self;
         cells
     }
 }
@@ -43,12 +43,7 @@ impl<'a> DenseTape<'a> {
 fn are_codes(cells: &[u8]) -> bool
     ensures { result ≡ all_codes cells.now }
 {
-    for code in cells {
-        if *code > HIGHEST_CODE {
-            return false;
-        }
-    }
-    true
+    cells.iter().all(|code| *code <= HIGHEST_CODE)
 }
 
 impl<'a> Tape for DenseTape<'a> {
@@ -72,20 +67,7 @@ impl<'a> Tape for DenseTape<'a> {
     }
 
     fn shift(&mut self, direction: Direction) -> Result<(), TapeRefusal> {
-        match direction {
-            Direction::Left => {
-                if self.head == 0 {
-                    return Err(TapeRefusal::Edge);
-                }
-                self.head -= 1;
-            }
-            Direction::Right => {
-                if self.head + 1 >= self.cells.len() {
-                    return Err(TapeRefusal::Edge);
-                }
-                self.head += 1;
-            }
-        }
+        self.head = reach(self.cells.len(), self.head, direction.step()).ok_or(TapeRefusal::Edge)?;
         Ok(())
     }
 }

@@ -1,17 +1,19 @@
-use Rattle.std.proofs.Common.{refl, ◌∙◌}
-use Rattle.bounded.proofs.Gap.{previous_in, backward_on, backward_none}
+use Rattle.std.proofs.Common.{◌≡◌, ◌-◌, List, [], ◌∷◌, length, take, drop, Some, sym, refl, arith}
+use Rattle.std.proofs.lemmas.Grind.{common_steps}
+use Rattle.std.proofs.lemmas.List.{drop_more}
+use Rattle.std.proofs.lemmas.Option.{slice_get_within, get_or_from_slice_get}
+use Rattle.std.specs.List.{slice_get}
 use Rattle.bounded.proofs.list.BoundedList.backward.Goals as goal
 
-pub returns-in_err-previous : goal.returns-in_err-previous
-returns-in_err-previous g c =
-    let l = c.args.self.now in
-    let none = c.in_err-previous.ensures in
-    record { answer = c.from_residual.ensures ∙ none; held = backward_none l.records.now l.front l.back none; lent = refl }
+last_is : {T : Type 0} (ys : List T) (x : T) → Some x ≡ slice_get ys (length ys - 1) → drop (length ys - 1) ys ≡ x ∷ []
+last_is ys x e =
+    let within = slice_get_within ys (length ys - 1) x (sym e) in
+    let more = drop_more ys (length ys - 1) x within in
+    let same = get_or_from_slice_get ys (length ys - 1) x x (sym e) in
+    grind (arith, common_steps)
 
-pub returns : goal.returns
-returns g c =
+pub returns-clause-after : goal.returns-clause-after
+returns-clause-after g c =
     let l = c.args.self.now in
-    let xs = l.records.now in
-    let x = c.in_ok-previous.previous in
-    let previous = c.in_ok-previous.ensures in
-    record { answer = previous; held = backward_on xs l.front l.back x (previous_in xs l.front x previous) l.apart l.inside previous; lent = refl }
+    let last = last_is (take l.front l.records.now) c.in_ok-previous.previous c.in_ok-previous.ensures in
+    record { held = grind (arith, common_steps); lent = refl }

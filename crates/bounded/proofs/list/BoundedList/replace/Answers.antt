@@ -1,19 +1,13 @@
-use Rattle.std.proofs.Common.{refl, ◌∙◌}
-use Rattle.bounded.proofs.Gap.{next_in, replace_in, replace_none}
+use Rattle.std.proofs.Common.{◌≡◌, List, [], ◌∷◌, drop, set, None, refl}
+use Rattle.std.specs.List.{slice_get}
 use Rattle.bounded.proofs.list.BoundedList.replace.Goals as goal
 
-pub returns-in_err-next : goal.returns-in_err-next
-returns-in_err-next g c =
-    let l = c.args.self.now in
-    let none = c.in_err-next.ensures in
-    record { answer = c.from_residual.ensures ∙ none; held = replace_none l.records.now l.front l.back c.args.«record» none; lent = refl }
+none_set : {T : Type 0} (ys : List T) (x : T) → None ≡ slice_get ys 0 → ys ≡ set ys 0 x
+none_set [] x e = refl
+none_set (y ∷ ys) x e = cc
 
-pub bounds-self-at : goal.bounds-self-at
-bounds-self-at g c =
+pub returns-in_err-replaced-clause-after : goal.returns-in_err-replaced-clause-after
+returns-in_err-replaced-clause-after g c =
     let l = c.args.self.now in
-    next_in l.records.now l.back c.in_ok-next.next c.in_ok-next.ensures
-
-pub returns : goal.returns
-returns g c =
-    let l = c.args.self.now in
-    record { answer = c.in_ok-next.ensures; held = replace_in l.records.now l.front l.back c.args.«record» l.apart; lent = refl }
+    let none = none_set (drop l.back l.records.now) c.args.«record» c.in_err-replaced.ensures in
+    record { held = cc; lent = refl }

@@ -1,21 +1,12 @@
-use Rattle.std.proofs.Common.{◌≡◌, ℕ, zero, suc, ◌+◌, List, [], ◌∷◌, map, replicate, refl, ap, ◌∙◌}
-use Rattle.std.specs.List.{range_with_len}
-use Rattle.bounded.specs.Held.{held}
-use Rattle.tape.specs.Meaning.{Meaning}
-use Rattle.sparse.specs.Records.{code_at}
+use Rattle.std.proofs.Common.{[], length, replicate, sym, ap, ◌∙◌}
+use Rattle.std.proofs.lemmas.List.{length-replicate, get_or-replicate}
+use Rattle.std.proofs.lemmas.List.FromFn.{fill_by_all}
 use Rattle.sparse.proofs.Calls.{of_list}
+use Rattle.sparse.specs.Records.{code_at}
 use Rattle.sparse.proofs.sparse.SparseTape.new.Goals as goal
 
-blanks : (a n : ℕ) → map (code_at []) (range_with_len a n) ≡ replicate n 0
-blanks a zero = refl
-blanks a (suc n) = ap (λ l. 0 ∷ l) (blanks (a + 1) n)
-
-pub returns : goal.returns
-returns c =
-    let k = (held c.args.records.now).capacity in
-    let with-cells : List ℕ → Meaning = λ cs. record { capacity = k; cells = cs; head = c.args.head } in
-    record {
-      meaning = ap (of_list c.args.size c.args.head) c.clear.ensures.held ∙ ap with-cells (blanks 0 c.args.size);
-      lent = refl;
-      memory = c.clear.ensures.lent;
-    }
+pub returns-clause-meaning : goal.returns-clause-meaning
+returns-clause-meaning c =
+    let n = c.args.size in
+    let blank = fill_by_all (code_at []) (replicate n 0) n 0 (length-replicate n 0) (λ k lt. get_or-replicate n k 0 0 lt) in
+    ap (of_list n c.args.head) c.clear.ensures.held ∙ ap (λ cs. record { capacity = length c.args.records.now.records.now; cells = cs; head = c.args.head }) (sym blank)
