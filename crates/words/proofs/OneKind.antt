@@ -1,36 +1,27 @@
 -- A text has one kind.
-use Rattle.std.proofs.Common.{◌≡◌, ℕ, Bool, true, false, cond, List, [], ◌∷◌, Some, None, Option, sym, refl, ap, ◌∙◌, arith}
+use Rattle.std.proofs.Common.{◌≡◌, Bool, true, false, cond, List, [], ◌∷◌, Some, None, Option, sym, refl, ap, ◌∙◌, arith}
 use Rattle.std.proofs.lemmas.Slice.Eq.{bytes_eq-Decides}
-use Rattle.std.proofs.lemmas.Bool.{cond-true, cond-false, true≢false}
 use Rattle.words.specs.declared.token.Keyword.{Keyword}
 use Rattle.words.specs.declared.token.Keyword.TheVariants.{Alphabet, Module, If, While, Changeto, Move, Left, Right, Accept, Reject, Goto}
 use Rattle.words.specs.declared.token.Mark.{Mark}
 use Rattle.words.specs.declared.token.Mark.TheVariants.{Open, Close, Comma, Equals}
 use Rattle.words.specs.Bytes.{Text}
-use Rattle.words.specs.Vocabulary.{same, is_name_text, is_symbol_text}
+use Rattle.words.specs.Vocabulary.{is_name_text, is_symbol_text}
 use Rattle.words.specs.Tokens.{keyword_text, mark_text, keywords, marks, written, keyword_in, mark_in, Kind, symbol, key, mark, name, none, plain_kind, fixed_kind, kind, Means, OnlyKindOf}
 
 module _ {A : Type 0} (text : A → Text) (w : Text) where
   -- what is found is written so
   found : (xs : List A) (x : A) → written text xs w ≡ Some x → w ≡ text x
-  found [] x e = let z : ◌≡◌ {A = ℕ} 0 1 = cc in absurd (omega arith)
-  found (y ∷ ys) x e = at (same w (text y)) refl e (found ys x)
-    where
-      at : (b : Bool) → same w (text y) ≡ b → cond b (Some y) (written text ys w) ≡ Some x → (written text ys w ≡ Some x → w ≡ text x) → w ≡ text x
-      at true t f later = let same-one : y ≡ x = cc in (bytes_eq-Decides w (text y)).0 t ∙ ap text same-one
-      at false t f later = later f
+  found [] x e = cc
+  found (y ∷ ys) x e = grind (arith, bytes_eq-Decides w (text y), found ys x)
 
   -- what is written like none is not found
   missed : (xs : List A) → ((x : A) → w ≡ text x → ⊥) → written text xs w ≡ None
   missed [] unlike = refl
-  missed (y ∷ ys) unlike = at (same w (text y)) refl (missed ys unlike)
-    where
-      at : (b : Bool) → same w (text y) ≡ b → written text ys w ≡ None → cond b (Some y) (written text ys w) ≡ None
-      at true t later = absurd (unlike y ((bytes_eq-Decides w (text y)).0 t))
-      at false t later = later
+  missed (y ∷ ys) unlike = grind (arith, bytes_eq-Decides w (text y), unlike y, missed ys unlike)
 
 -- how a keyword is written is found as that keyword, and is a name
-of_keyword : (k : Keyword) → (keyword_in (keyword_text k) ≡ Some k) × (kind (keyword_text k) ≡ key k) × (is_name_text (keyword_text k) ≡ true)
+pub of_keyword : (k : Keyword) → (keyword_in (keyword_text k) ≡ Some k) × (kind (keyword_text k) ≡ key k) × (is_name_text (keyword_text k) ≡ true)
 unfolding kind
 of_keyword Alphabet = (refl, refl, refl)
 of_keyword Module = (refl, refl, refl)
@@ -54,10 +45,10 @@ of_mark Equals = (refl, refl, refl)
 
 module _ (w : Text) where
   no_keyword : (k : Keyword) → keyword_in w ≡ None → w ≡ keyword_text k → ⊥
-  no_keyword k e s = let f = (of_keyword k).0 in let g = ap keyword_in s in let z : ◌≡◌ {A = ℕ} 0 1 = cc in omega arith
+  no_keyword k e s = let f = (of_keyword k).0 in let g = ap keyword_in s in cc
 
   no_mark : (m : Mark) → mark_in w ≡ None → w ≡ mark_text m → ⊥
-  no_mark m e s = let f = (of_mark m).0 in let g = ap mark_in s in let z : ◌≡◌ {A = ℕ} 0 1 = cc in omega arith
+  no_mark m e s = let f = (of_mark m).0 in let g = ap mark_in s in cc
 
   -- a text that is neither a symbol nor a keyword nor a mark
   means_plain : (b : Bool) → is_name_text w ≡ b → is_symbol_text w ≡ false → keyword_in w ≡ None → mark_in w ≡ None → Means w (cond b name none)
@@ -82,24 +73,19 @@ module _ (w : Text) where
   unfolding kind
   means_kind = means_any (is_symbol_text w) refl
 
-  -- the kind of a text that is neither a symbol nor a keyword nor a mark
-  kind_plain : is_symbol_text w ≡ false → keyword_in w ≡ None → mark_in w ≡ None → kind w ≡ cond (is_name_text w) name none
-  unfolding kind
-  kind_plain s k m = cond-false (is_symbol_text w) symbol (fixed_kind (keyword_in w) w) s ∙ ap (λ o. fixed_kind o w) k ∙ ap (λ o. plain_kind o w) m
-
   only : (j : Kind) → Means w j → j ≡ kind w
   unfolding kind
-  only symbol e = sym (cond-true (is_symbol_text w) symbol (fixed_kind (keyword_in w) w) e)
+  only symbol e = rw e
   only (key k) e = sym (ap kind e ∙ (of_keyword k).1)
   only (mark m) e = sym (ap kind e ∙ (of_mark m).1)
   only name e =
       let k = missed keyword_text w keywords e.2 in
-      let m = missed mark_text w marks (λ j s. true≢false (sym e.0 ∙ ap is_name_text s ∙ (of_mark j).2)) in
-      sym (kind_plain e.1 k m ∙ cond-true (is_name_text w) name none e.0)
+      let m = missed mark_text w marks (λ j s. let named = (of_mark j).2 in let same = ap is_name_text s in cc) in
+      rw (e.1, k, m, e.0)
   only none e =
-      let k = missed keyword_text w keywords (λ j s. true≢false (sym (of_keyword j).2 ∙ sym (ap is_name_text s) ∙ e.0)) in
+      let k = missed keyword_text w keywords (λ j s. let named = (of_keyword j).2 in let same = ap is_name_text s in cc) in
       let m = missed mark_text w marks e.2 in
-      sym (kind_plain e.1 k m ∙ cond-false (is_name_text w) name none e.0)
+      rw (e.1, k, m, e.0)
 
   -- a text is what its kind says, and of no other kind
   pub only_kind : OnlyKindOf w (kind w)

@@ -1,19 +1,17 @@
--- Where the rest of a list begins.
-use Rattle.std.proofs.Common.{◌≡◌, ℕ, ◌+◌, ◌<◌, ◌≤◌, List, [], ◌∷◌, length, get_or, drop, sym, ap, ◌∙◌, add-zero, arith}
-use Rattle.std.proofs.lemmas.List.{length-drop, get_or-drop, drop-drop}
+-- The places of a source that is read.
+use Rattle.std.proofs.Common.{◌≡◌, ℕ, ◌+◌, ◌<◌, List, ◌∷◌, length, get_or, drop, ap, arith}
+use Rattle.std.proofs.lemmas.List.{length-drop, drop_more}
+use Rattle.words.specs.declared.reader.Condition.{Condition}
+use Rattle.words.specs.declared.reader.Condition.TheVariants.{Between, Inside}
 
--- a rest that is not empty begins at a place of the list
-pub begins_within : (xs : List ℕ) (p b : ℕ) (bs : List ℕ) → drop p xs ≡ b ∷ bs → p < length xs
-begins_within xs p b bs e = omega (arith, length-drop p xs, ap length e)
+-- where the word that is being read at a place began, or that place
+abbrev pub start : Condition → ℕ → ℕ
+start Between p = p
+start (Inside q) p = q
 
--- its first element stands at that place
-pub begins_with : (xs : List ℕ) (p b : ℕ) (bs : List ℕ) → drop p xs ≡ b ∷ bs → get_or xs p 0 ≡ b
-begins_with xs p b bs e = ap (λ i. get_or xs i 0) (sym (add-zero p)) ∙ sym (get_or-drop p xs 0 0) ∙ ap (λ ys. get_or ys 0 0) e
-
--- what follows is the rest from the next place
-pub goes_on : (xs : List ℕ) (p b : ℕ) (bs : List ℕ) → drop p xs ≡ b ∷ bs → drop (p + 1) xs ≡ bs
-goes_on xs p b bs e = sym (drop-drop 1 p xs) ∙ ap (drop 1) e
-
--- an empty rest begins at the end
-pub ends : (xs : List ℕ) (p : ℕ) → drop p xs ≡ [] → length xs ≤ p
-ends xs p e = omega (arith, length-drop p xs, ap length e)
+-- a rest that is not empty begins with the byte at its place, and goes on from the next place
+pub begins : (xs : List ℕ) (p b : ℕ) (bs : List ℕ) → drop p xs ≡ b ∷ bs → (p < length xs) × (get_or xs p 0 ≡ b) × (drop (p + 1) xs ≡ bs)
+begins xs p b bs e =
+    let some : p < length xs = omega (arith, length-drop p xs, ap length e) in
+    let rest = drop_more xs p 0 some in
+    (some, cc, cc)

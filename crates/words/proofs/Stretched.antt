@@ -1,5 +1,5 @@
 -- The words of a source are its marks and its longest stretches of parts.
-use Rattle.std.proofs.Common.{◌≡◌, ℕ, ◌+◌, ◌-◌, ◌<◌, ◌≤◌, false, eqb, ◌⊎◌, List, [], ◌∷◌, length, get_or, take, drop, sym, refl, ap, subst, inl, inr, ⊎_elim, arith, below_more}
+use Rattle.std.proofs.Common.{◌≡◌, ℕ, ◌+◌, ◌-◌, ◌<◌, ◌≤◌, ◌≢◌, ◌⊎◌, List, [], ◌∷◌, length, get_or, take, drop, sym, refl, ap, ◌∙◌, subst, inl, inr, ⊎_elim, arith, below_more}
 use Rattle.std.specs.List.{AllByRecursion}
 use Rattle.std.proofs.lemmas.List.{length-take, length-drop}
 use Rattle.std.proofs.lemmas.Bool.{cases_lt}
@@ -8,10 +8,9 @@ use Rattle.words.specs.declared.bytes.Class.TheVariants.{Part, Mark, Separator, 
 use Rattle.words.specs.declared.reader.Condition.{Condition}
 use Rattle.words.specs.declared.reader.Condition.TheVariants.{Between, Inside}
 use Rattle.words.specs.Bytes.{Text, Holds, class}
-use Rattle.words.specs.Words.{Word, cut, turn, last, scan, words, start}
+use Rattle.words.specs.Words.{Word, cut, turn, last, scan, words}
 use Rattle.words.specs.Stretches.{end, Covered, Stretch, Single, Longest, Apart}
-use Rattle.words.proofs.Classes.{tag, clash}
-use Rattle.words.proofs.Places.{begins_within, begins_with, goes_on, ends}
+use Rattle.words.proofs.Places.{start, begins}
 
 -- a part or a mark, which some word has to cover
 abbrev pub Spoken : Text → ℕ → Type 0
@@ -44,7 +43,7 @@ between_behind source p not = record {
 }
 
 between_before : (source : Text) (p : ℕ) → (Holds source p Part → ⊥) → State source Between p
-between_before source p not = record { begun = tt; parts = λ i l h. absurd (omega arith); border = λ i e here next. not next }
+between_before source p not = grind (arith, not)
 
 module _ (source : Text) (q p : ℕ) (order : q ≤ p) (fits : p ≤ length source) where
   cut_length : length (cut source q p).text ≡ p - q
@@ -62,7 +61,7 @@ module _ (source : Text) (q p : ℕ) (order : q ≤ p) (fits : p ≤ length sour
     stretches = (cut_stretch, rest.stretches);
     kinds = (kind, rest.kinds);
     apart = (omega arith, subst (λ e. Apart e ws) (sym cut_end) rest.apart);
-    whole = λ i l y. ⊎_elim (λ h. inl (l, omega (arith, cut_end))) (λ h. inr (rest.whole i h y)) (cases_lt i p);
+    whole = λ i l y. grind (arith, cut_end, rest.whole i);
   }
 
 -- the word that is being read ends at a place with no part
@@ -103,10 +102,10 @@ skipped source p ws not rest = record {
 
 module _ (source : Text) (p : ℕ) (here : p < length source) (later : Condition → List Word) (rest : (k : Condition) → State source k (p + 1) → From source (start k (p + 1)) (later k)) where
   -- a byte that is neither a part nor a mark, read between words
-  silent : (c : Class) → class (get_or source p 0) ≡ c → eqb (tag c) (tag Part) ≡ false → eqb (tag c) (tag Mark) ≡ false → From source p (later Between)
+  silent : (c : Class) → class (get_or source p 0) ≡ c → c ≢ Part → c ≢ Mark → From source p (later Between)
   silent c e no_part no_mark =
-      skipped source p (later Between) (⊎_elim (clash source p c Part e no_part) (clash source p c Mark e no_mark))
-      (rest Between (between_behind source p (clash source p c Part e no_part)))
+      let not_part : Holds source p Part → ⊥ = λ h. no_part (sym e ∙ h.1) in
+      skipped source p (later Between) (⊎_elim not_part (λ h. no_mark (sym e ∙ h.1))) (rest Between (between_behind source p not_part))
 
   -- a byte of a known class, read between words
   from_between : (c : Class) → class (get_or source p 0) ≡ c → State source Between p → From source p (turn source Between p c later)
@@ -115,14 +114,14 @@ module _ (source : Text) (p : ℕ) (here : p < length source) (later : Condition
     parts = λ i l h. let same : i ≡ p = omega arith in subst (λ j. Holds source j Part) (sym same) (here, e);
     border = s.border;
   })
-  from_between Mark e s = marked source p (later Between) (here, e) (rest Between (between_behind source p (clash source p Mark Part e refl)))
-  from_between Separator e s = silent Separator e refl refl
-  from_between Foreign e s = silent Foreign e refl refl
+  from_between Mark e s = marked source p (later Between) (here, e) (rest Between (between_behind source p (λ h. let part = h.1 in cc)))
+  from_between Separator e s = silent Separator e (λ same. cc) (λ same. cc)
+  from_between Foreign e s = silent Foreign e (λ same. cc) (λ same. cc)
 
   -- a byte that is no part ends a word, and is read as between words
-  ends_word : (q : ℕ) (c : Class) → class (get_or source p 0) ≡ c → eqb (tag c) (tag Part) ≡ false → State source (Inside q) p → From source q (cut source q p ∷ turn source Between p c later)
+  ends_word : (q : ℕ) (c : Class) → class (get_or source p 0) ≡ c → c ≢ Part → State source (Inside q) p → From source q (cut source q p ∷ turn source Between p c later)
   ends_word q c e no_part s =
-      let not = clash source p c Part e no_part in
+      let not : Holds source p Part → ⊥ = λ h. no_part (sym e ∙ h.1) in
       closed source q p (turn source Between p c later) s not (from_between c e (between_before source p not))
 
   -- a byte of a known class, read inside a word
@@ -132,9 +131,9 @@ module _ (source : Text) (p : ℕ) (here : p < length source) (later : Condition
     parts = λ i l h. below_more (λ j. q ≤ j → Holds source j Part) p (λ j h l. s.parts j l h) (λ l. (here, e)) i h l;
     border = s.border;
   })
-  from_inside q Mark e s = ends_word q Mark e refl s
-  from_inside q Separator e s = ends_word q Separator e refl s
-  from_inside q Foreign e s = ends_word q Foreign e refl s
+  from_inside q Mark e s = ends_word q Mark e (λ same. cc) s
+  from_inside q Separator e s = ends_word q Separator e (λ same. cc) s
+  from_inside q Foreign e s = ends_word q Foreign e (λ same. cc) s
 
   -- a byte of a known class
   from_byte : (k : Condition) (c : Class) → class (get_or source p 0) ≡ c → State source k p → From source (start k p) (turn source k p c later)
@@ -143,7 +142,7 @@ module _ (source : Text) (p : ℕ) (here : p < length source) (later : Condition
 
 -- the end of a source
 nothing : (source : Text) (p : ℕ) → length source ≤ p → From source p []
-nothing source p h = record { stretches = tt; kinds = tt; apart = tt; whole = λ i l y. ⊎_elim (λ x. omega (arith, x.0)) (λ x. omega (arith, x.0)) y }
+nothing source p h = grind arith
 
 at_end : (source : Text) (k : Condition) (p : ℕ) → length source ≤ p → State source k p → From source (start k p) (last source k p)
 at_end source Between p h s = nothing source p h
@@ -151,11 +150,11 @@ at_end source (Inside q) p h s = closed source q p [] s (λ x. omega (arith, x.0
 
 -- the rest of a source, read in a condition
 read : (source rest : Text) (k : Condition) (p : ℕ) → drop p source ≡ rest → State source k p → From source (start k p) (scan source k p rest)
-read source [] k p e s = at_end source k p (ends source p e) s
+read source [] k p e s = at_end source k p (omega (arith, length-drop p source, ap length e)) s
 read source (b ∷ bs) k p e s =
-    from_byte source p (begins_within source p b bs e) (λ j. scan source j (p + 1) bs) (λ j t. read source bs j (p + 1) (goes_on source p b bs e) t)
-    k (class b) (ap class (begins_with source p b bs e)) s
+    let at = begins source p b bs e in
+    from_byte source p at.0 (λ j. scan source j (p + 1) bs) (λ j t. read source bs j (p + 1) at.2 t) k (class b) (ap class at.1) s
 
 -- the words of a source
 pub stretched : (source : Text) → From source 0 (words source)
-stretched source = read source source Between 0 refl (record { begun = tt; parts = λ i l h. absurd (omega arith); border = λ i e here next. omega arith })
+stretched source = read source source Between 0 refl (grind arith)

@@ -1,11 +1,9 @@
 -- A source has one list of words.
-use Rattle.std.proofs.Common.{◌≡◌, ℕ, ◌<◌, ◌≤◌, ◌⊎◌, List, [], ◌∷◌, length, take, drop, sym, refl, ◌∙◌, subst, inl, inr, ⊎_elim, arith}
-use Rattle.std.proofs.lemmas.Bool.{cases_order}
-use Rattle.words.specs.declared.bytes.Class.TheVariants.{Part, Mark}
+use Rattle.std.proofs.Common.{◌≡◌, ℕ, ◌<◌, ◌≤◌, ◌⊎◌, List, [], ◌∷◌, length, take, drop, sym, refl, ◌∙◌, subst, inl, inr, arith}
+use Rattle.words.specs.declared.bytes.Class.TheVariants.{Part}
 use Rattle.words.specs.Bytes.{Text, Holds}
 use Rattle.words.specs.Words.{Word, words}
 use Rattle.words.specs.Stretches.{end, Covered, Stretch, Single, Longest, Apart, OnlyWordsOf}
-use Rattle.words.proofs.Classes.{clash}
 use Rattle.words.proofs.Stretched.{Spoken, From, stretched}
 
 -- what a word of a source is
@@ -14,8 +12,7 @@ Kind source w = Single source w ⊎ Longest source w
 
 -- a word has a byte
 has_byte : (source : Text) (w : Word) → Kind source w → w.place < end w
-has_byte source w (inl s) = omega (arith, s.one)
-has_byte source w (inr l) = omega (arith, l.nonempty)
+has_byte source w kind = grind arith
 
 -- its first byte is a part or a mark
 spoken : (source : Text) (w : Word) → Kind source w → Spoken source w.place
@@ -25,15 +22,12 @@ spoken source w (inr l) = inl (l.parts w.place (omega arith, omega (arith, l.non
 -- words from a place on cover nothing before it
 covers_late : (p : ℕ) (ws : List Word) (i : ℕ) → Apart p ws → Covered ws i → p ≤ i
 covers_late p [] i a c = absurd c
-covers_late p (w ∷ ws) i a (inl c) = omega (arith, a.0, c.0)
-covers_late p (w ∷ ws) i a (inr c) = let l = covers_late (end w) ws i a.1 c in omega (arith, a.0, l)
+covers_late p (w ∷ ws) i a c = grind (arith, covers_late (end w) ws i)
 
 -- the first word covers the first part or mark
 first_not_later : (source : Text) (p : ℕ) (v w : Word) (vs ws : List Word) → From source p (v ∷ vs) → From source p (w ∷ ws) → v.place < w.place → ⊥
 first_not_later source p v w vs ws f g l =
-    ⊎_elim (λ c. omega (arith, c.0))
-    (λ c. omega (arith, covers_late (end w) ws v.place g.apart.1 c))
-    (g.whole v.place f.apart.0 (spoken source v f.kinds.0))
+    grind (arith, covers_late (end w) ws v.place, g.whole v.place f.apart.0 (spoken source v f.kinds.0))
 
 -- a longest stretch ends before none that begins where it does
 not_shorter : (source : Text) (v w : Word) → v.place ≡ w.place → Longest source v → Longest source w → length v.text < length w.text → ⊥
@@ -43,16 +37,16 @@ not_shorter source v w e k m l = k.behind (m.parts (end v) (omega (arith, e), om
 mark_or_parts : (source : Text) (v w : Word) → v.place ≡ w.place → Single source v → Longest source w → ⊥
 mark_or_parts source v w e s l =
     let here : Holds source v.place Part = l.parts v.place (omega (arith, e), omega (arith, e, l.nonempty)) in
-    clash source v.place Mark Part s.mark.1 refl here
+    let mark = s.mark.1 in
+    let part = here.1 in
+    cc
 
 same_length : (source : Text) (v w : Word) → v.place ≡ w.place → Kind source v → Kind source w → length v.text ≡ length w.text
 same_length source v w e (inl s) (inl t) = s.one ∙ sym t.one
 same_length source v w e (inl s) (inr m) = absurd (mark_or_parts source v w e s m)
 same_length source v w e (inr k) (inl t) = absurd (mark_or_parts source w v (sym e) t k)
 same_length source v w e (inr k) (inr m) =
-    ⊎_elim (λ same. same)
-    (⊎_elim (λ l. absurd (not_shorter source v w e k m l)) (λ l. absurd (not_shorter source w v (sym e) m k l)))
-    (cases_order (length v.text) (length w.text))
+    grind (arith, not_shorter source v w e k m, not_shorter source w v (sym e) m k)
 
 -- two words of a source that begin at one place are one
 same_word : (source : Text) (v w : Word) → v.place ≡ w.place → Stretch source v → Stretch source w → Kind source v → Kind source w → v ≡ w
@@ -68,8 +62,7 @@ behind source p w ws f = record {
   kinds = f.kinds.1;
   apart = f.apart.1;
   whole = λ i l y.
-      ⊎_elim (λ c. absurd (omega (arith, c.1))) (λ c. c)
-      (f.whole i (omega (arith, f.apart.0, has_byte source w f.kinds.0)) y);
+      grind (arith, f.whole i (omega (arith, f.apart.0, has_byte source w f.kinds.0)) y);
 }
 
 -- two lists of words from one place on are one
@@ -78,7 +71,7 @@ one_list source p [] [] f g = refl
 one_list source p [] (w ∷ ws) f g = absurd (f.whole w.place g.apart.0 (spoken source w g.kinds.0))
 one_list source p (v ∷ vs) [] f g = absurd (g.whole v.place f.apart.0 (spoken source v f.kinds.0))
 one_list source p (v ∷ vs) (w ∷ ws) f g =
-    let e : v.place ≡ w.place = ⊎_elim (λ same. same) (⊎_elim (λ l. absurd (first_not_later source p v w vs ws f g l)) (λ l. absurd (first_not_later source p w v ws vs g f l))) (cases_order v.place w.place) in
+    let e : v.place ≡ w.place = grind (arith, first_not_later source p v w vs ws f g, first_not_later source p w v ws vs g f) in
     let first : v ≡ w = same_word source v w e f.stretches.0 g.stretches.0 f.kinds.0 g.kinds.0 in
     let rest : vs ≡ ws = one_list source (end v) vs ws (behind source p v vs f) (subst (λ u. From source (end u) ws) (sym first) (behind source p w ws g)) in
     λ i. first i ∷ rest i

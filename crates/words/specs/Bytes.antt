@@ -1,5 +1,5 @@
 -- The classes of bytes, and the first byte that no source may hold.
-use Rattle.std.specs.Prelude.{◌≡◌, ℕ, ◌+◌, ◌<◌, Bool, true, false, cond, ◌&&◌, ◌||◌, List, [], ◌∷◌, length, Some, None, Option, ◌==◌, nat_le, slice_index}
+use Rattle.std.specs.Prelude.{◌≡◌, ℕ, ◌<◌, Bool, true, false, cond, ◌&&◌, ◌||◌, List, length, position, Some, None, Option, ◌==◌, nat_le, slice_index}
 use Rattle.words.specs.declared.bytes.Class.{Class}
 use Rattle.words.specs.declared.bytes.Class.TheVariants.{Part, Mark, Separator, Foreign}
 
@@ -42,14 +42,9 @@ is_foreign Mark = false
 is_foreign Separator = false
 is_foreign Foreign = true
 
--- the place of the first foreign byte, where the first byte stands at p
-abbrev pub foreign_from : ℕ → Text → Option ℕ
-foreign_from p [] = None
-foreign_from p (b ∷ bs) = cond (is_foreign (class b)) (Some p) (foreign_from (p + 1) bs)
-
 -- the place of the first foreign byte
 abbrev pub first_foreign : Text → Option ℕ
-first_foreign source = foreign_from 0 source
+first_foreign source = position (λ b. is_foreign (class b)) source
 
 -- no byte is foreign, or the one at the place is, and none before it
 abbrev pub FirstForeign : Text → Option ℕ → Type 0

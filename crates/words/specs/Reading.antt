@@ -7,11 +7,7 @@ use Rattle.words.specs.declared.word.Word.{Word as Given}
 
 -- the words that a reader has still to give
 abbrev pub left : Reader → List Word
-left r = scan r.source.now r.condition r.at (drop r.at r.source.now)
-
--- the words that a reader would have to give if it were between words
-abbrev pub left_between : Reader → List Word
-left_between r = scan r.source.now Between r.at (drop r.at r.source.now)
+left r = scan r.source.now Between r.at (drop r.at r.source.now)
 
 -- the word that was given
 abbrev pub word : Given → Word

@@ -1,5 +1,6 @@
 -- The fixed words of the grammar, and the tests for names, letters and symbols.
-use Rattle.std.specs.Prelude.{Bool, true, false, ◌&&◌, ◌||◌, T, [], ◌∷◌, codes}
+use Rattle.std.specs.Prelude.{Bool, false, ◌&&◌, ◌||◌, T, [], ◌∷◌, codes}
+use Rattle.std.specs.List.{list_all}
 use Rattle.std.specs.Str.{bytes_eq}
 use Rattle.words.specs.Bytes.{Text, between, is_alpha, is_digit}
 
@@ -60,8 +61,7 @@ same v w = bytes_eq v w
 
 -- every byte is an ASCII letter
 abbrev pub alphas : Text → Bool
-alphas [] = true
-alphas (b ∷ bs) = is_alpha b && alphas bs
+alphas w = list_all is_alpha w
 
 -- a name: one or more ASCII letters
 abbrev pub is_name_text : Text → Bool

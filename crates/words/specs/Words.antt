@@ -40,8 +40,3 @@ scan source k p (b ∷ bs) = turn source k p (class b) (λ j. scan source j (p +
 -- the words of a source
 abbrev pub words : Text → List Word
 words source = scan source Between 0 source
-
--- where the word that is being read at a place began, or that place
-abbrev pub start : Condition → ℕ → ℕ
-start Between p = p
-start (Inside q) p = q

@@ -1,9 +1,9 @@
 // The classes of the bytes of a source.
 ghost use Rattle.std.specs.Prelude.{◌≡◌};
-ghost use Rattle.words.specs.Bytes.{class, is_foreign, first_foreign, FirstForeign};
+ghost use Rattle.words.specs.Bytes.{class, first_foreign, FirstForeign};
 
 // What a byte is to the word reader.
-#[derive(Clone, Copy, Drop)]
+#[derive(Clone, Copy, Debug, PartialEq, Eq, Drop)]
 pub enum Class {
     // A letter or a digit, which a word is made of.
     Part,
@@ -26,23 +26,12 @@ pub fn classify(byte: u8) -> Class
     }
 }
 
-impl Class {
-    fn is_foreign(self) -> bool
-        ensures { result ≡ is_foreign self }
-    {
-        matches!(self, Class::Foreign)
-    }
-}
-
 // The place of the first foreign byte, if there is one.
 pub fn first_foreign(source: &[u8]) -> Option<usize>
     ensures place { result ≡ first_foreign source.now }
     ensures law { FirstForeign source.now result }
 {
-    for (place, byte) in source.iter().enumerate() {
-        if classify(*byte).is_foreign() {
-            return Some(place);
-        }
-    }
-    None
+    source
+        .iter()
+        .position(|byte| classify(*byte) == Class::Foreign)
 }

@@ -2,10 +2,7 @@
 use crate::{Keyword, Reader, Token, Word, first_foreign};
 
 fn is_at(word: Option<Word>, text: &[u8], place: usize) -> bool {
-    match word {
-        Some(word) => word.text == text && word.place == place,
-        None => false,
-    }
+    word.is_some_and(|word| word.text == text && word.place == place)
 }
 
 fn token_of(text: &[u8]) -> Option<Token<'_>> {
@@ -17,10 +14,7 @@ fn is_goto(text: &[u8]) -> bool {
 }
 
 fn is_name(text: &[u8]) -> bool {
-    match token_of(text) {
-        Some(token) => token.as_name().is_some(),
-        None => false,
-    }
+    token_of(text).is_some_and(|token| token.as_name().is_some())
 }
 
 fn code_of(text: &[u8]) -> Option<u8> {
