@@ -95,21 +95,6 @@ with_current c x = record {
   goto_room = x.goto_room;
 }
 
--- with other blocks
-unfoldable pub with_blocks : List (Kind Text) → Notes → Notes
-with_blocks bs x = record {
-  letters = x.letters;
-  width = x.width;
-  names = x.names;
-  gotos = x.gotos;
-  count = x.count;
-  blocks = bs;
-  violation = x.violation;
-  current = x.current;
-  name_room = x.name_room;
-  goto_room = x.goto_room;
-}
-
 -- a code is blank's or a letter's
 unfoldable pub is_column : Notes → ℕ → Bool
 is_column x c = member c (columns x.letters)

@@ -1,6 +1,7 @@
 -- A table that writes back what a block leaves does the same.
-use Rattle.std.proofs.Common.{◌≡◌, ℕ, zero, suc, ◌+◌, ◌<◌, Bool, true, false, cond, not, ◌&&◌, ◌||◌, eqb, ltb, leb, List, [], ◌∷◌, map, length, get_or, set, Some, None, Option, sym, refl, ap, ◌∙◌, add-zero, zero-add, arith}
+use Rattle.std.proofs.Common.{◌≡◌, ℕ, zero, suc, ◌+◌, ◌<◌, Bool, true, false, cond, not, ◌&&◌, ◌||◌, eqb, ltb, leb, List, [], ◌∷◌, map, length, get_or, Some, None, Option, sym, refl, ap, ◌∙◌, add-zero, zero-add, arith}
 use Rattle.std.proofs.lemmas.Bool.{eqb-true, ltb-true, false≢true}
+use Rattle.std.proofs.lemmas.List.{set-get_or}
 use Rattle.words.specs.Bytes.{Text}
 use Rattle.meaning.specs.Codes.{member, position, columns}
 use Rattle.meaning.specs.declared.refusals.Refusal.{Refusal}
@@ -16,14 +17,10 @@ use Rattle.meaning.specs.declared.calls.Call.TheVariants.{Step, Go, Mark, Nudge,
 use Rattle.meaning.specs.declared.calls.Answer.{Answer}
 use Rattle.meaning.specs.declared.calls.Answer.TheVariants.{Stepped}
 use Rattle.meaning.specs.Laws.{Agreement}
+use Rattle.meaning.proofs.Keeps.{some_none}
 
 abbrev pub fill : ℕ → Action → Action
 fill c d = entry_action (action_entry c d)
-
-set_same : (xs : List ℕ) (i : ℕ) → set xs i (get_or xs i 0) ≡ xs
-set_same [] i = refl
-set_same (x ∷ xs) zero = refl
-set_same (x ∷ xs) (suc i) = ap (λ ys. x ∷ ys) (set_same xs i)
 
 never : (b x : Bool) → b && (not b && x) ≡ false
 never true x = refl
@@ -34,7 +31,7 @@ fill_room t None = never (eqb (at_head t) 0) (leb t.capacity (nonblank t.cells))
 fill_room t (Some c) = refl
 
 fill_written : (t : Meaning) (w : Option ℕ) → write_after t (Some (or_this (at_head t) w)) ≡ write_after t w
-fill_written t None = ap (λ (xs : List ℕ). let r : Meaning = record { capacity = t.capacity; cells = xs; head = t.head } in r) (set_same t.cells t.head)
+fill_written t None = ap (λ (xs : List ℕ). let r : Meaning = record { capacity = t.capacity; cells = xs; head = t.head } in r) (set-get_or t.cells t.head 0)
 fill_written t (Some c) = refl
 
 abbrev placed_after : Action → Config → Meaning → Config
@@ -52,9 +49,6 @@ gate false false b3 b4 x y h = refl
 gate false true true b4 x y h = refl
 gate false true false false x y h = refl
 gate false true false true x y h = h refl refl
-
-some_none : {A : Type 0} (n : Refusal) → ◌≡◌ {A = Option Refusal} (Some n) None → A
-some_none n e = let z : ◌≡◌ {A = ℕ} 0 1 = cc in absurd (omega arith)
 
 opened : (b1 b2 b3 b4 : Bool) (x : Option Refusal) → gated b1 b2 b3 b4 x ≡ None → (b2 ≡ true) × (b4 ≡ true)
 opened true b2 b3 b4 x e = some_none Verdict e

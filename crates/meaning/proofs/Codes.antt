@@ -1,17 +1,13 @@
 -- Symbol codes.
-use Rattle.std.proofs.Common.{◌≡◌, ℕ, ◌+◌, ◌-◌, Bool, true, false, cond, ◌||◌, T, leb, ◌⊎◌, [], ◌∷◌, Some, None, refl, inl, inr, arith}
+use Rattle.std.proofs.Common.{◌≡◌, ℕ, ◌+◌, ◌-◌, Bool, true, false, cond, ◌||◌, leb, ◌⊎◌, [], ◌∷◌, Some, None, refl, inl, inr, arith}
 use Rattle.std.proofs.lemmas.Bool.{and_parts, leb-true, or_cases, false≢true}
 use Rattle.words.specs.Bytes.{Text, between, is_digit}
-use Rattle.words.specs.Vocabulary.{BLANK, same, is_letter_text, is_symbol_text}
+use Rattle.words.specs.Vocabulary.{BLANK, same, is_letter_text}
 use Rattle.words.specs.Codes.{symbol_code}
 use Rattle.grammar.proofs.Tests.{same_true}
 use Rattle.meaning.specs.Codes.{or_blank, word_code, CodesAre}
-use Rattle.meaning.proofs.Names.{code_symbol}
+use Rattle.meaning.proofs.Names.{passes, code_symbol}
 use Rattle.meaning.proofs.Ranges.{code_small}
-
-holds : (b : Bool) → T b → b ≡ true
-holds true t = refl
-holds false t = absurd t
 
 -- a letter's code by either definition
 letter_told : (b : ℕ) → between 97 122 b || is_digit b ≡ true → symbol_code (b ∷ []) ≡ word_code (b ∷ [])
@@ -25,12 +21,12 @@ letter_told b h = by (between 97 122 b) (is_digit b) refl refl h
 told_by : (w : Text) → (is_letter_text w ≡ true) ⊎ (same w BLANK ≡ true) → symbol_code w ≡ word_code w
 told_by [] h = refl
 told_by (b ∷ []) (inl h) = letter_told b h
-told_by (b ∷ []) (inr h) = let z = same_true (b ∷ []) BLANK h in let y : ◌≡◌ {A = ℕ} 0 1 = cc in absurd (omega arith)
+told_by (b ∷ []) (inr h) = let z = same_true (b ∷ []) BLANK h in absurd cc
 told_by (b ∷ c ∷ cs) h = refl
 
 pub codes_are : CodesAre
 codes_are = record {
-  told = λ s. told_by s.word (or_cases (is_letter_text s.word) (same s.word BLANK) (holds (is_symbol_text s.word) s.fits));
+  told = λ s. told_by s.word (or_cases (is_letter_text s.word) (same s.word BLANK) (passes s));
   most = code_small;
   back = code_symbol;
 }

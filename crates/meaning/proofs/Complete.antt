@@ -1,6 +1,6 @@
 -- The completed text compiles, is short, and translates back.
 use Rattle.std.proofs.Common.{◌≡◌, ℕ, zero, suc, ◌+◌, ◌*◌, ◌<◌, ◌≤◌, Bool, true, false, cond, eqb, ltb, leb, List, [], ◌∷◌, ◌++◌, map, length, Ok, codes, sym, refl, ap, ◌∙◌, subst, suc-mul, mul-add, mul_left_comm, arith, length-append}
-use Rattle.std.proofs.lemmas.Bool.{le-ltb, leb-true, ltb-false, or_parts, true≢false}
+use Rattle.std.proofs.lemmas.Bool.{agree_below_at, le-ltb, leb-true, ltb-false, or_parts, true≢false}
 use Rattle.grammar.specs.Tree.{Direction as WrittenDirection, left, right, Flow, accept, reject, goto, Symbols, Cases, no_more, more, Module, Program}
 use Rattle.grammar.specs.Automaton.{parsed, parse}
 use Rattle.grammar.specs.Depth.{depth_limit, case_depth, cases_depth, inside_depth, modules_depth, depth}
@@ -18,7 +18,7 @@ use Rattle.meaning.specs.Outcome.{refused, ruled, worded, byted, outcome}
 use Rattle.meaning.specs.Print.{state_name, if_case, while_case, next_case, case_of, row_cases, inside_of, row_module, row_modules, letter_symbols, of_modules, printed}
 use Rattle.meaning.specs.Tables.{Each, NextWithin, EntryWithin, RowWithin, Within}
 use Rattle.meaning.specs.Text.{Line, commas_text, symbols_text, move_line, flow_line, case_lines, cases_lines, inside_lines, module_lines, modules_lines, program_lines, text_of, text, RoundTrip}
-use Rattle.meaning.proofs.Names.{below, each_columns, each_member}
+use Rattle.meaning.proofs.Names.{each_columns, each_member}
 use Rattle.meaning.proofs.Back.{Small}
 use Rattle.meaning.proofs.Clean.{prints_back, Unseen, letters_differ}
 use Rattle.meaning.proofs.Spell.{words_spell, text_words, none_foreign, text-++}
@@ -52,10 +52,10 @@ program_shallow ss (m ∷ ms) h = omega arith
 
 -- lengths
 symbol_short : (c : ℕ) → c ≤ 36 → length (symbol c).word ≤ 5
-symbol_short c h = leb-true (length (symbol c).word) 5 (below (λ x. leb (length (symbol x).word) 5) 37 c refl (omega arith))
+symbol_short c h = leb-true (length (symbol c).word) 5 (agree_below_at (λ x. leb (length (symbol x).word) 5) (λ _. true) 37 c refl (omega arith))
 
 name_short : (q : ℕ) → q < 128 → length (state_name q).word ≤ 4
-name_short q h = leb-true (length (state_name q).word) 4 (below (λ x. leb (length (state_name x).word) 4) 128 q refl h)
+name_short q h = leb-true (length (state_name q).word) 4 (agree_below_at (λ x. leb (length (state_name x).word) 4) (λ _. true) 128 q refl h)
 
 move_short : (d : WrittenDirection) → length (move_line d) ≤ 10
 move_short left = omega arith
@@ -135,7 +135,7 @@ module _ (cols : List ℕ) (n : ℕ) (small : Small cols) (few : n ≤ 128) wher
 
 letter_short : (c : ℕ) → c ≤ 36 → member c (0 ∷ []) ≡ false → length (symbol c).word ≤ 1
 letter_short zero h m = absurd (true≢false m)
-letter_short (suc c) h m = leb-true (length (symbol (suc c)).word) 1 (below (λ x. leb (length (symbol (suc x)).word) 1) 36 c refl (omega arith))
+letter_short (suc c) h m = leb-true (length (symbol (suc c)).word) 1 (agree_below_at (λ x. leb (length (symbol (suc x)).word) 1) (λ _. true) 36 c refl (omega arith))
 
 commas_short : (cs : List ℕ) → Small cs → Unseen (0 ∷ []) cs → length (commas_text (map symbol cs)) ≤ 3 * length cs
 commas_short [] s u = omega arith
@@ -180,7 +180,7 @@ pub accepted_back : (p : Program) → depth p ≤ depth_limit → faults p ≡ [
 accepted_back p h f l =
     let src = text_of (program_lines p) in
     ap (λ b. cond b (refused Length 60000) (byted src (first_foreign src))) (le-ltb 60000 (length src) l)
-    ∙ ap (byted src) (none_foreign src 0 (program_spell p).bytes)
+    ∙ ap (byted src) (none_foreign src (program_spell p).bytes)
     ∙ ap (worded src) (read_back p h)
     ∙ ap (λ fs. ruled src p (lowest fs)) f
 

@@ -1,5 +1,5 @@
 -- Exactly the right outcome of a source is told.
-use Rattle.std.proofs.Common.{◌≡◌, ℕ, ◌<◌, ◌≤◌, Bool, true, false, cond, eqb, ltb, List, [], ◌∷◌, length, Some, None, Ok, Err, Option, Result, sym, refl, ap, ◌∙◌, subst, inl, inr, arith}
+use Rattle.std.proofs.Common.{◌≡◌, ℕ, ◌<◌, ◌≤◌, Bool, true, false, cond, ltb, List, [], ◌∷◌, length, Some, None, Ok, Err, Option, Result, sym, refl, ap, ◌∙◌, subst, inl, inr, arith}
 use Rattle.std.proofs.lemmas.Bool.{ltb-true, ltb-false, lt-ltb, le-ltb}
 use Rattle.words.specs.Bytes.{Text, first_foreign, FirstForeign}
 use Rattle.words.specs.Words.{words}
@@ -10,7 +10,7 @@ use Rattle.grammar.specs.Places.{texts}
 use Rattle.grammar.specs.Laws.{IsParse}
 use Rattle.grammar.proofs.Laws.{reads_programs, finds_faults, finds_depth}
 use Rattle.meaning.specs.declared.faults.Cause.{Cause}
-use Rattle.meaning.specs.declared.faults.Cause.TheVariants.{Length, Byte, Word, Depth, Alphabet, ModuleName, Goto, Letter, Repeated, Missing, Limit}
+use Rattle.meaning.specs.declared.faults.Cause.TheVariants.{Length}
 use Rattle.meaning.specs.declared.faults.Fault.{Fault}
 use Rattle.meaning.specs.Numbers.{cause_number}
 use Rattle.meaning.specs.Faults.{Violation, lower, lowest, Among, Earlier, NoneBefore, IsLowest, faults, first_fault}
@@ -40,22 +40,8 @@ some_first source p h = by (first_foreign source) (first source)
         tie false false e f = let x = ltb-false p q e in let y = ltb-false q p f in omega arith
 
 -- a cause is told by its number
-abbrev cause_of : ℕ → Cause
-cause_of n =
-    cond (eqb n 1) Length (cond (eqb n 2) Byte (cond (eqb n 3) Word (cond (eqb n 4) Depth (cond (eqb n 5) Alphabet (cond (eqb n 6) ModuleName (cond (eqb n 7) Goto (cond (eqb n 8) Letter (cond (eqb n 9) Repeated (cond (eqb n 10) Missing Limit)))))))))
-
-cause_back : (c : Cause) → cause_of (cause_number c) ≡ c
-cause_back Length = refl
-cause_back Byte = refl
-cause_back Word = refl
-cause_back Depth = refl
-cause_back Alphabet = refl
-cause_back ModuleName = refl
-cause_back Goto = refl
-cause_back Letter = refl
-cause_back Repeated = refl
-cause_back Missing = refl
-cause_back Limit = refl
+one_cause : (c d : Cause) → cause_number c ≡ cause_number d → c ≡ d
+one_cause c d e = grind (arith, e)
 
 -- there is one lowest violation
 not_earlier : (x f : Violation) (fs : List Violation) → Among x fs → NoneBefore f fs → ¬ Earlier x f
@@ -81,7 +67,7 @@ same_rank f x a b = λ j. record { index = same_index j; cause = same_cause j }
     same_number = order (cause_number f.cause) (cause_number x.cause) (λ l. b (inr (same_index, l))) (λ l. a (inr (sym same_index, l)))
 
     same_cause : f.cause ≡ x.cause
-    same_cause = sym (cause_back f.cause) ∙ ap cause_of same_number ∙ cause_back x.cause
+    same_cause = one_cause f.cause x.cause same_number
 
 only_lowest : (f : Violation) (fs : List Violation) → IsLowest f fs → lowest fs ≡ Some f
 only_lowest f [] h = absurd h.among

@@ -282,7 +282,7 @@ module _ {S : Type 0} (Near : ℕ → S → Type 0) where
         (agreed o (with_tape k (moved t d)) (nudged m d) (along_moved o t m.tape m.index d (not_end (at_end t d) e) (along k m a)) a.control)
       where
         not_end : (b : Bool) → ◌≡◌ {A = Result (Unit {0}) TapeRefusal} (cond b (Err TapeRefusal.Edge) (Ok tt)) (Ok tt) → b ≡ false
-        not_end true g = let z : ◌≡◌ {A = ℕ} 0 1 = cc in absurd (omega arith)
+        not_end true g = absurd cc
         not_end false g = refl
 
     runs_follow : (first_one : S) → Near 0 first_one → RunsFollow Near R (execute_by f) first_one

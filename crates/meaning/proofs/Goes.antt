@@ -66,10 +66,10 @@ steps_join R (suc m) n k = ap (λ i. steps R i k) (suc-add m n) ∙ by_refusal R
 
 still : (o : Option Refusal) (x : Next) (k j : Config) (w : Went) → j.status ≡ status_after x → (over j.status ≡ false → w.ending ≡ Spent → over w.config.status ≡ false)
     → (refused_or o k (onward x j w)).ending ≡ Spent → over (refused_or o k (onward x j w)).config.status ≡ false
-still (Some r) x k j w s ih e = let z : ◌≡◌ {A = ℕ} 0 1 = cc in absurd (omega arith)
+still (Some r) x k j w s ih e = absurd cc
 still None (To r) k j w s ih e = ih (ap over s) e
-still None Accept k j w s ih e = let z : ◌≡◌ {A = ℕ} 0 1 = cc in absurd (omega arith)
-still None Reject k j w s ih e = let z : ◌≡◌ {A = ℕ} 0 1 = cc in absurd (omega arith)
+still None Accept k j w s ih e = absurd cc
+still None Reject k j w s ih e = absurd cc
 
 -- what is spent is still going
 spent_going : (R : Rules) (m : ℕ) (k : Config) → over k.status ≡ false → (steps R m k).ending ≡ Spent → over (steps R m k).config.status ≡ false

@@ -43,7 +43,7 @@ room_kept here c capacity used after = at (eqb here 0) (eqb c 0) (leb capacity u
   where
     at : (a b l : Bool) → leb capacity used ≡ l → a && (not b && l) ≡ false → used ≤ capacity → after + one_if a ≡ used + one_if b → after ≤ capacity
     at true true l e h u s = omega arith
-    at true false true e h u s = let z : ◌≡◌ {A = ℕ} 0 1 = cc in absurd (omega arith)
+    at true false true e h u s = absurd cc
     at true false false e h u s = let k = leb-false capacity used e in omega arith
     at false true l e h u s = omega arith
     at false false l e h u s = omega arith
@@ -97,7 +97,7 @@ pub record Passed (R : Rules) (k : Config) : Type 0 where
   pub room : write_no_room k.tape (action_here R k).write ≡ false
 
 pub some_none : {A B : Type 0} (x : B) → ◌≡◌ {A = Option B} (Some x) None → A
-some_none x e = let z : ◌≡◌ {A = ℕ} 0 1 = cc in absurd (omega arith)
+some_none x e = absurd cc
 
 through : (a b c d e f : Bool) → first ((a, Verdict) ∷ (not b, Number) ∷ (c, Total) ∷ (not d, Symbol) ∷ (e, Edge) ∷ (f, Capacity) ∷ []) ≡ None → (a ≡ false) × (b ≡ true) × (d ≡ true) × (e ≡ false) × (f ≡ false)
 through true b c d e f h = some_none Verdict h
@@ -162,10 +162,10 @@ pub no_shape : NoShape
 no_shape = record { put = λ t c. put_not (ltb 36 c) (no_room t c); shift = λ t d. shift_not (at_end t d) }
   where
     put_not : (a b : Bool) → ¬ (◌≡◌ {A = Result (Unit {0}) TapeRefusal} (cond a (Err TapeRefusal.Code) (cond b (Err TapeRefusal.Capacity) (Ok tt))) (Err TapeRefusal.Shape))
-    put_not true b e = let z : ◌≡◌ {A = ℕ} 0 1 = cc in omega arith
-    put_not false true e = let z : ◌≡◌ {A = ℕ} 0 1 = cc in omega arith
-    put_not false false e = let z : ◌≡◌ {A = ℕ} 0 1 = cc in omega arith
+    put_not true b e = cc
+    put_not false true e = cc
+    put_not false false e = cc
 
     shift_not : (a : Bool) → ¬ (◌≡◌ {A = Result (Unit {0}) TapeRefusal} (cond a (Err TapeRefusal.Edge) (Ok tt)) (Err TapeRefusal.Shape))
-    shift_not true e = let z : ◌≡◌ {A = ℕ} 0 1 = cc in omega arith
-    shift_not false e = let z : ◌≡◌ {A = ℕ} 0 1 = cc in omega arith
+    shift_not true e = cc
+    shift_not false e = cc

@@ -4,6 +4,7 @@ pub mod Names
 pub mod Splits
 pub mod Order
 pub mod Lowest
+pub mod FaultOrder
 pub mod Only
 pub mod Pigeons
 pub mod Keeps
@@ -23,3 +24,4 @@ pub mod NextBlocks
 pub mod RulesAre
 pub mod Codes
 pub mod Exactly
+pub mod Equal

@@ -1,6 +1,6 @@
 -- Symbols and states' names, and back.
-use Rattle.std.proofs.Common.{◌≡◌, ℕ, zero, suc, ◌+◌, ◌-◌, ◌*◌, ◌<◌, ◌≤◌, Bool, true, false, ◌&&◌, ◌||◌, eqb, List, [], ◌∷◌, sym, refl, ap, ◌∙◌, subst, ap₂, arith}
-use Rattle.std.proofs.lemmas.Bool.{eqb-true, eqb-false, and_parts, false≢true}
+use Rattle.std.proofs.Common.{◌≡◌, ℕ, ◌+◌, ◌-◌, ◌*◌, ◌<◌, ◌≤◌, Bool, true, false, ◌||◌, T, eqb, List, [], ◌∷◌, sym, refl, ap, ◌∙◌, subst, ap₂, arith}
+use Rattle.std.proofs.lemmas.Bool.{agree_below_at, eqb-true, eqb-false, false≢true}
 use Rattle.words.specs.Bytes.{Text}
 use Rattle.words.specs.Vocabulary.{Such, is_name_text, same}
 use Rattle.grammar.proofs.Tests.{same_true, same_refl}
@@ -8,28 +8,23 @@ use Rattle.meaning.specs.Codes.{code, symbol, passing, member, columns}
 use Rattle.meaning.specs.Print.{state_word, state_name}
 use Rattle.meaning.specs.Tables.{Each}
 
-abbrev pub all_below : (ℕ → Bool) → ℕ → Bool
-all_below p zero = true
-all_below p (suc n) = p n && all_below p n
-
--- what computes to true at every number below n holds of each
-pub below : (p : ℕ → Bool) (n c : ℕ) → all_below p n ≡ true → c < n → p c ≡ true
-below p zero c h l = absurd (omega arith)
-below p (suc n) c h l = at (eqb c n) refl (below p n c (and_parts (p n) (all_below p n) h).1)
+-- a word that passed a test passes it
+pub passes : {p : Text → Bool} (s : Such p) → p s.word ≡ true
+passes {p} s = holds (p s.word) s.fits
   where
-    at : (b : Bool) → eqb c n ≡ b → (c < n → p c ≡ true) → p c ≡ true
-    at true e ih = ap p (eqb-true c n e) ∙ (and_parts (p n) (all_below p n) h).0
-    at false e ih = ih (let d : c ≡ n → ⊥ = eqb-false c n e in omega arith)
+    holds : (b : Bool) → T b → b ≡ true
+    holds true t = refl
+    holds false t = absurd t
 
 pub code_symbol : (c : ℕ) → c ≤ 36 → code (symbol c) ≡ c
-code_symbol c h = eqb-true (code (symbol c)) c (below (λ x. eqb (code (symbol x)) x) 37 c refl (omega arith))
+code_symbol c h = eqb-true (code (symbol c)) c (agree_below_at (λ x. eqb (code (symbol x)) x) (λ _. true) 37 c refl (omega arith))
 
 passing_word : {p : Text → Bool} (w : Text) (b : Bool) (e : p w ≡ b) (other : Such p) → b ≡ true → (passing w b e other).word ≡ w
 passing_word w true e other h = refl
 passing_word w false e other h = absurd (false≢true h)
 
 pub name_word : (q : ℕ) → q < 128 → (state_name q).word ≡ state_word q
-name_word q h = passing_word {p = is_name_text} (state_word q) (is_name_text (state_word q)) refl _ (below (λ x. is_name_text (state_word x)) 128 q refl h)
+name_word q h = passing_word {p = is_name_text} (state_word q) (is_name_text (state_word q)) refl _ (agree_below_at (λ x. is_name_text (state_word x)) (λ _. true) 128 q refl h)
 
 -- the number that a state's word tells
 abbrev told : ℕ → List ℕ → ℕ
@@ -41,7 +36,7 @@ number_of [] = 0
 number_of (s ∷ ds) = told 0 ds
 
 number_back : (q : ℕ) → q < 128 → number_of (state_word q) ≡ q
-number_back q h = eqb-true (number_of (state_word q)) q (below (λ x. eqb (number_of (state_word x)) x) 128 q refl h)
+number_back q h = eqb-true (number_of (state_word q)) q (agree_below_at (λ x. eqb (number_of (state_word x)) x) (λ _. true) 128 q refl h)
 
 by_eqb : (q r : ℕ) (b : Bool) → eqb q r ≡ b → (v w : Text) → (q ≡ r → same v w ≡ true) → (same v w ≡ true → q ≡ r) → same v w ≡ b
 by_eqb q r true e v w good only = good (eqb-true q r e)

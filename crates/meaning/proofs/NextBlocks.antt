@@ -32,10 +32,10 @@ module _ (t : Program) (p : Part) (rest : Point) (plain : p.flow ≡ none) where
 
   case_after : (here : Point) (k : Case) (out : Behind) → case_executed k out ≡ block p rest → (case_step t here k out).after ≡ rest_after rest
   case_after here (if ss b) out e = first_after (body_start b out) e
-  case_after here (while ss o) out e = let z : ◌≡◌ {A = ℕ} 0 1 = cc in absurd (omega arith)
+  case_after here (while ss o) out e = absurd cc
 
   switch_after : (here : Point) (cs : Cases) (out : Behind) (c : ℕ) → switch_executed cs out c ≡ block p rest → (switch_step t here cs out c).after ≡ rest_after rest
-  switch_after here no_more out c e = let z : ◌≡◌ {A = ℕ} 0 1 = cc in absurd (omega arith)
+  switch_after here no_more out c e = absurd cc
   switch_after here (more k ks) out c e = by (member c (case_codes k)) e (switch_after here ks out c)
     where
       by : (v : Bool) → cond v (case_executed k (of_case ks out)) (switch_executed ks out c) ≡ block p rest → (switch_executed ks out c ≡ block p rest → (switch_step t here ks out c).after ≡ rest_after rest)
@@ -82,10 +82,10 @@ module _ (p : Part) (rest : Point) where
       let l = length-append (symbols_words ss) (braced (body_words b)) in
       let m = braced_length (body_words b) in
       omega arith
-  case_words_of (while ss o) out e = let z : ◌≡◌ {A = ℕ} 0 1 = cc in absurd (omega arith)
+  case_words_of (while ss o) out e = absurd cc
 
   switch_words : (cs : Cases) (out : Behind) (c : ℕ) → switch_executed cs out c ≡ block p rest → AmongWords (length (cases_words cs) + words_behind out)
-  switch_words no_more out c e = let z : ◌≡◌ {A = ℕ} 0 1 = cc in absurd (omega arith)
+  switch_words no_more out c e = absurd cc
   switch_words (more k ks) out c e = by (member c (case_codes k)) e (switch_words ks out c)
     where
       by : (v : Bool) → cond v (case_executed k (of_case ks out)) (switch_executed ks out c) ≡ block p rest → (switch_executed ks out c ≡ block p rest → AmongWords (length (cases_words ks) + words_behind out))

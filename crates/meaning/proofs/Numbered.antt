@@ -320,7 +320,7 @@ module _ (t : Program) (cols : List ℕ) (ns : List Text) (n : ℕ) (known_start
   at_number [] [] p q c s h w f e = absurd (none_some s f)
     where
       none_some : (s : Point) → None ≡ Some s → ⊥
-      none_some s f = let z : ◌≡◌ {A = ℕ} 0 1 = cc in omega arith
+      none_some s f = cc
   at_number [] (x ∷ xs) p q c s h w f e = absurd h
   at_number (b ∷ bs) [] p q c s h w f e = absurd h
   at_number (b ∷ bs) (x ∷ xs) zero q c s h w f e =

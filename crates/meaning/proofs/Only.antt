@@ -14,7 +14,7 @@ use Rattle.meaning.proofs.Order.{parts_filled, braced_length, numbers_in_order}
 use Rattle.meaning.proofs.Agree.{settled_length}
 
 pub nth_below : (xs : List Point) (q : ℕ) (s : Point) → nth xs q ≡ Some s → q < length xs
-nth_below [] q s e = let z : ◌≡◌ {A = ℕ} 0 1 = cc in absurd (omega arith)
+nth_below [] q s e = absurd cc
 nth_below (x ∷ xs) zero s e = omega arith
 nth_below (x ∷ xs) (suc q) s e = let z = nth_below xs q s e in omega arith
 
@@ -113,7 +113,7 @@ settled_place at' (b ∷ bs) zero = refl
 settled_place at' (b ∷ bs) (suc q) = settled_place at' bs q
 
 placed_at : (n : ℕ) (bs : List (Block Text)) (xs : List Point) (q : ℕ) (s : Point) → Placed n bs xs → nth xs q ≡ Some s → index_at bs q + words_from s ≡ n
-placed_at n [] [] q s h e = let z : ◌≡◌ {A = ℕ} 0 1 = cc in absurd (omega arith)
+placed_at n [] [] q s h e = absurd cc
 placed_at n [] (x ∷ xs) q s h e = absurd h
 placed_at n (b ∷ bs) [] q s h e = absurd h
 placed_at n (b ∷ bs) (x ∷ xs) zero s h e = let g : x ≡ s = cc in ap (λ y. b.index + words_from y) (sym g) ∙ h.0

@@ -10,6 +10,7 @@ use Rattle.meaning.specs.Blocks.{Part, rank, first_rank, before, ending, joined,
 use Rattle.meaning.specs.Tables.{Each}
 use Rattle.meaning.specs.Points.{parts_length as total}
 use Rattle.meaning.specs.Splits.{Rising, NumbersInOrder}
+use Rattle.meaning.proofs.Splits.{part}
 
 abbrev Drafts : Type 0
 Drafts = List (Block Text)
@@ -29,9 +30,6 @@ together lo mid hi (x ∷ xs) ys o p = (o.0, together (suc x.index) mid hi xs ys
 -- no part is empty
 abbrev Filled : List Part → Type 0
 Filled ps = Each (λ p. 1 ≤ part_length p) ps
-
-abbrev part : Maybe Symbol → Maybe WrittenDirection → Maybe Flow → Part
-part w m f = record { write = w; move = m; flow = f }
 
 two_more : (a : Act) (w : Maybe Symbol) (m : Maybe WrittenDirection) (f : Maybe Flow) → ltb (rank a) (first_rank (part w m f)) ≡ true → part_length (before a (part w m f)) ≡ 2 + part_length (part w m f)
 two_more (change s) none m f h = omega arith

@@ -23,10 +23,10 @@ use Rattle.meaning.proofs.Agree.{rows_length, settled_length, kinds_length}
 -- no faults of a whole: none of its pieces
 pub nil_parts : {A : Type 0} (xs ys : List A) → xs ++ ys ≡ [] → (xs ≡ []) × (ys ≡ [])
 nil_parts [] ys e = (refl, e)
-nil_parts (x ∷ xs) ys e = let z : ◌≡◌ {A = ℕ} 0 1 = cc in absurd (omega arith)
+nil_parts (x ∷ xs) ys e = absurd cc
 
 pub no_flag : (b : Bool) (i : ℕ) (n : Cause) → flag b i n ≡ [] → b ≡ false
-no_flag true i n e = let z : ◌≡◌ {A = ℕ} 0 1 = cc in absurd (omega arith)
+no_flag true i n e = absurd cc
 no_flag false i n e = refl
 
 pub each-++ : {A : Type 0} (P : A → Type 0) (xs ys : List A) → Each P xs → Each P ys → Each P (xs ++ ys)

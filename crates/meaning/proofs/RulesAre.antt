@@ -17,7 +17,7 @@ use Rattle.meaning.specs.Tables.{Each}
 use Rattle.meaning.specs.RuleLaws.{NoneOf, Use, goes_to, changes_to, switches, flow_uses, acts_uses, once_uses, cases_codes, switch_uses, body_uses, case_uses, cases_uses, inside_uses, modules_uses, uses, gotos, symbols_used, all_switches, count, LettersFit, different_names, NamesFit, AllNamed, AllColumns, OnceEach, LimitsFit, KeepsRules, RuleLaws, RulesAre}
 use Rattle.meaning.proofs.Names.{each_member}
 use Rattle.meaning.proofs.Clean.{Unseen, unseen_more, unseen_none, no_again, no_limits, each_own}
-use Rattle.meaning.proofs.Ranges.{nil_parts, each-++, fewer, not_there, unseen_by, limits_kept, modules_some}
+use Rattle.meaning.proofs.Ranges.{nil_parts, no_flag, each-++, fewer, not_there, unseen_by, limits_kept, modules_some}
 use Rattle.meaning.proofs.Agree.{settled_length}
 
 each_parts : {A : Type 0} (P : A → Type 0) (xs ys : List A) → Each P (xs ++ ys) → Each P xs × Each P ys
@@ -56,7 +56,7 @@ causes_flag false i n = refl
 
 causes_nil : (fs : List Violation) → causes fs ≡ [] → fs ≡ []
 causes_nil [] e = refl
-causes_nil (f ∷ fs) e = let z : ◌≡◌ {A = ℕ} 0 1 = cc in absurd (omega arith)
+causes_nil (f ∷ fs) e = absurd cc
 
 to_causes : (n : Cause) (fs : List Violation) → NoneOf n fs → Absent n (causes fs)
 to_causes n [] h = tt
@@ -159,10 +159,6 @@ named_later w m seen = by (same w ACCEPT) (same w REJECT) (same w m) (named w se
     by false true false s = refl
     by false false true s = refl
     by false false false s = refl
-
-no_flag : (b : Bool) (i : ℕ) (n : Cause) → flag b i n ≡ [] → b ≡ false
-no_flag true i n e = let z : ◌≡◌ {A = ℕ} 0 1 = cc in absurd (omega arith)
-no_flag false i n e = refl
 
 names_none : (ms : List Module) (seen : List Text) (i : ℕ) → names_faults seen ms i ≡ [] → Fresh (fixed seen) (module_names ms) × (different_names (module_names ms) ≡ true)
 names_none [] seen i e = (tt, refl)

@@ -25,7 +25,7 @@ use Rattle.meaning.proofs.Complete.{round_trip}
 use Rattle.meaning.proofs.Ranges.{translates_within}
 
 no_fault : {A : Type 0} (c : Cause) (p : ℕ) (t : Program) → refused c p ≡ Ok t → A
-no_fault c p t e = let z : ◌≡◌ {A = ℕ} 0 1 = cc in absurd (omega arith)
+no_fault c p t e = absurd cc
 
 by_rules : (source : Text) (s t : Program) (fs : List Violation) → faults s ≡ fs → ruled source s (lowest fs) ≡ Ok t → faults t ≡ []
 by_rules source s t [] f e = let same : s ≡ t = cc in ap faults (sym same) ∙ f

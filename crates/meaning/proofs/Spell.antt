@@ -1,8 +1,9 @@
 -- The words of a text, read line by line.
-use Rattle.std.proofs.Common.{◌≡◌, ℕ, ◌+◌, ◌-◌, Bool, true, cond, not, ◌&&◌, ◌||◌, List, [], ◌∷◌, ◌++◌, length, take, drop, Some, None, sym, refl, ap, ◌∙◌, ap₂, append_assoc, append-nil, arith, length-append}
+use Rattle.std.proofs.Common.{◌≡◌, ℕ, ◌+◌, ◌-◌, Bool, true, cond, not, ◌&&◌, ◌||◌, List, [], ◌∷◌, ◌++◌, length, take, drop, None, sym, refl, ap, ◌∙◌, ap₂, append_assoc, append-nil, arith, length-append}
 use lib.Seq.{take-append_seam, drop-append_seam}
-use Rattle.std.proofs.lemmas.Bool.{and_parts, and_from, not-true}
-use Rattle.words.specs.Bytes.{Text, is_alpha, is_digit, is_mark_byte, is_separator, class, is_foreign, foreign_from}
+use Rattle.std.specs.List.{list_all, position}
+use Rattle.std.proofs.lemmas.Bool.{and_parts, and_from}
+use Rattle.words.specs.Bytes.{Text, is_alpha, is_digit, is_mark_byte, is_separator, class, is_foreign, first_foreign}
 use Rattle.words.specs.Words.{cut, turn, scan, words}
 use Rattle.grammar.specs.Places.{texts}
 use Rattle.words.specs.declared.bytes.Class.{Class}
@@ -136,14 +137,14 @@ words_spell src = (scanned src).0 src [] 0 refl refl
 
 -- no byte is foreign
 abbrev pub familiar : List ℕ → Bool
-familiar [] = true
-familiar (b ∷ bs) = not (is_foreign (class b)) && familiar bs
+familiar src = list_all (λ b. not (is_foreign (class b))) src
 
-pub none_foreign : (src : List ℕ) (p : ℕ) → familiar src ≡ true → foreign_from p src ≡ None
-none_foreign [] p h = refl
-none_foreign (b ∷ bs) p h =
-    let f = and_parts (not (is_foreign (class b))) (familiar bs) h in
-    ap (λ v. cond v (Some p) (foreign_from (p + 1) bs)) (not-true (is_foreign (class b)) f.0) ∙ none_foreign bs (p + 1) f.1
+nowhere : (test : ℕ → Bool) (xs : List ℕ) → list_all (λ x. not (test x)) xs ≡ true → position test xs ≡ None
+nowhere test [] h = refl
+nowhere test (x ∷ xs) h = grind (arith, nowhere test xs)
+
+pub none_foreign : (src : List ℕ) → familiar src ≡ true → first_foreign src ≡ None
+none_foreign src h = nowhere (λ b. is_foreign (class b)) src h
 
 pub familiar-++ : (xs ys : List ℕ) → familiar xs ≡ true → familiar ys ≡ true → familiar (xs ++ ys) ≡ true
 familiar-++ [] ys h l = l

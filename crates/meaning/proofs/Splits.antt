@@ -7,7 +7,7 @@ use Rattle.grammar.specs.Tree.{Direction as WrittenDirection, Act, change, move,
 use Rattle.meaning.specs.Blocks.{Part, rank, first_rank, before, ending, joined, parts}
 use Rattle.meaning.specs.Splits.{Command, act, flow, commands, part_commands, all_commands, SplitsFewest}
 
-abbrev part : Maybe Symbol → Maybe WrittenDirection → Maybe Flow → Part
+abbrev pub part : Maybe Symbol → Maybe WrittenDirection → Maybe Flow → Part
 part w m f = record { write = w; move = m; flow = f }
 
 -- an act of lower rank goes in front
@@ -73,10 +73,10 @@ same_rest : (c d : Command) (cs ds : List Command) → c ∷ cs ≡ d ∷ ds →
 same_rest c d cs ds e = cc
 
 not_flow : {A : Type 0} (f : Flow) (b : Act) (cs ds : List Command) → flow f ∷ cs ≡ act b ∷ ds → A
-not_flow f b cs ds e = let z : ◌≡◌ {A = ℕ} 0 1 = cc in absurd (omega arith)
+not_flow f b cs ds e = absurd cc
 
 not_none : {A : Type 0} (c : Command) (cs : List Command) → [] ≡ c ∷ cs → A
-not_none c cs e = let z : ◌≡◌ {A = ℕ} 0 1 = cc in absurd (omega arith)
+not_none c cs e = absurd cc
 
 module _ (a : Act) (xs : List Act) (f : Maybe Flow) (ih : (ps : List Part) → all_commands ps ≡ commands xs f → length (parts xs f) ≤ length ps) where
   -- a stands alone in its part

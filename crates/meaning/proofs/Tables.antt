@@ -1,6 +1,7 @@
 -- Tables typed in keep the ranges.
-use Rattle.std.proofs.Common.{◌≡◌, ℕ, zero, suc, ◌<◌, ◌≤◌, Bool, true, false, cond, not, ◌&&◌, ◌||◌, eqb, ltb, leb, List, [], ◌∷◌, map, length, get_or, set, replicate, Some, None, sym, refl, ap, ◌∙◌, subst, arith, length-append, length-set, get_or-set_other, get_or-set_same}
-use lib.ListN.{length-map}
+use Rattle.std.proofs.Common.{◌≡◌, ℕ, zero, suc, ◌<◌, ◌≤◌, Bool, true, false, cond, not, ◌&&◌, ◌||◌, eqb, ltb, leb, List, [], ◌∷◌, map, length, get_or, set, replicate, sym, refl, ap, ◌∙◌, subst, arith, length-append, length-set, get_or-set_other, get_or-set_same}
+use Rattle.std.proofs.lemmas.List.{length-map, length-replicate}
+use Rattle.std.proofs.lemmas.Option.{cond_some}
 use Rattle.std.proofs.lemmas.Bool.{and_parts, not-true, leb-true, ltb-true, eqb-true, eqb-false, false≢true}
 use Rattle.meaning.specs.Codes.{member, different, position, columns}
 use Rattle.meaning.specs.declared.machines.Next.{Next}
@@ -18,10 +19,6 @@ use Rattle.meaning.proofs.Ranges.{below_37}
 codes_each : (cs : List ℕ) → all_codes cs ≡ true → Each (λ c. c ≤ 36) cs
 codes_each [] h = tt
 codes_each (c ∷ cs) h = let p = and_parts (leb c 36) (all_codes cs) h in (leb-true c 36 p.0, codes_each cs p.1)
-
-length-replicate : {A : Type 0} (n : ℕ) (x : A) → length (replicate n x) ≡ n
-length-replicate zero x = refl
-length-replicate (suc n) x = ap suc (length-replicate n x)
 
 each_replicate : {A : Type 0} (P : A → Type 0) (n : ℕ) (x : A) → P x → Each P (replicate n x)
 each_replicate P zero x p = tt
@@ -53,10 +50,6 @@ made_within letters n h =
       few = ap (λ m. too_many m (length cols)) l ∙ not-true (too_many n (length cols)) p₁.1;
       rows = each_replicate (RowWithin cols (length rows)) n (map fresh cols) (record { wide = length-map cols fresh; each = fresh_within cols (length rows) cols (each_own cols) });
     }
-
-by_cond : (b : Bool) (t u : Table) → cond b (Some t) None ≡ Some u → (b ≡ true) × (t ≡ u)
-by_cond true t u e = let z : t ≡ u = cc in (refl, z)
-by_cond false t u e = let z : ◌≡◌ {A = ℕ} 0 1 = cc in absurd (omega arith)
 
 each_set : {A : Type 0} (P : A → Type 0) (xs : List A) (i : ℕ) (x : A) → Each P xs → P x → Each P (set xs i x)
 each_set P [] i x w p = tt
@@ -154,7 +147,7 @@ replaces t q c e w h r d l m = by_row (eqb r q) refl
 
 pub new_and_set : NewAndSet
 new_and_set = record {
-  new_within = λ letters n t e. let p = by_cond (new_fits letters n) (fresh_table letters n) t e in subst Within p.1 (made_within letters n p.0);
-  set_within = λ t q c e u w h. let p = by_cond (set_fits t q c e) (with_entry t q c e) u h in subst Within p.1 (replaced_within t q c e w p.0);
+  new_within = λ letters n t e. let p = cond_some (new_fits letters n) (fresh_table letters n) t e in subst Within p.1 (made_within letters n p.0);
+  set_within = λ t q c e u w h. let p = cond_some (set_fits t q c e) (with_entry t q c e) u h in subst Within p.1 (replaced_within t q c e w p.0);
   replaces = replaces;
 }

@@ -1,18 +1,15 @@
 -- The text of a program has the program's words.
-use Rattle.std.proofs.Common.{◌≡◌, ℕ, Bool, true, false, ◌||◌, T, ◌⊎◌, List, [], ◌∷◌, ◌++◌, sym, refl, ap, ◌∙◌, subst, ap₂, inl, inr, append_assoc, append-nil}
+use Rattle.std.proofs.Common.{◌≡◌, ℕ, true, ◌||◌, ◌⊎◌, List, [], ◌∷◌, ◌++◌, sym, refl, ap, ◌∙◌, subst, ap₂, inl, inr, append_assoc, append-nil}
 use mathlib.Core.Option.{none, some}
 use Rattle.std.proofs.lemmas.Bool.{and_parts, and_from, or_left, or_right, or_cases, false≢true}
 use Rattle.words.specs.Bytes.{Text, between, is_alpha}
-use Rattle.words.specs.Vocabulary.{Symbol, Name, OPEN, CLOSE, COMMA, EQUALS, ALPHABET, MODULE, IF, WHILE, CHANGETO, GOTO, BLANK, same, alphas, is_name_text, is_letter_text, is_symbol_text}
+use Rattle.words.specs.Vocabulary.{Symbol, Name, OPEN, CLOSE, COMMA, EQUALS, ALPHABET, MODULE, IF, WHILE, CHANGETO, GOTO, BLANK, same, alphas, is_name_text, is_letter_text}
 use Rattle.grammar.specs.Tree.{Direction as WrittenDirection, left, right, Act, change, move, Flow, accept, reject, goto, Once, once_change, once_move, Symbols, symbols, Body, act_cases, acts_flow, Case, if, while, Cases, no_more, more, Inside, cases, body, Module, module', Program, program}
 use Rattle.grammar.specs.Render.{move_words, act_words, acts_words, flow_words, once_words, commas_words, symbols_words, braced, body_words, case_words, cases_words, inside_words, module_words, modules_words, render}
 use Rattle.meaning.specs.Text.{Line, commas_text, symbols_text, move_line, act_line, acts_lines, flow_line, once_lines, closed, body_lines, case_lines, cases_lines, inside_lines, module_lines, modules_lines, program_lines}
 use Rattle.grammar.proofs.Tests.{same_true}
+use Rattle.meaning.proofs.Names.{passes}
 use Rattle.meaning.proofs.Spell.{is_part_byte, all_part, one_word, at_space, at_comma, at_close, familiar-++, parts_familiar, Says, Spells, no_lines, one_line, lines-++, last_line}
-
-holds : (b : Bool) → T b → b ≡ true
-holds true t = refl
-holds false t = absurd t
 
 alone : (w : Text) → all_part w ≡ true → ¬ (w ≡ []) → Says w (w ∷ [])
 alone [] h n = absurd (n refl)
@@ -27,7 +24,7 @@ says_name [] h = absurd (false≢true h)
 says_name (c ∷ cs) h = record { words = one_word c cs (alphas_part (c ∷ cs) h); bytes = parts_familiar (c ∷ cs) (alphas_part (c ∷ cs) h) }
 
 name_says : (n : Name) → Says n.word (n.word ∷ [])
-name_says n = says_name n.word (holds (is_name_text n.word) n.fits)
+name_says n = says_name n.word (passes n)
 
 part_letter : (c : ℕ) → between 97 122 c || between 48 57 c ≡ true → is_part_byte c ≡ true
 part_letter c h = at (or_cases (between 97 122 c) (between 48 57 c) h)
@@ -49,7 +46,7 @@ says_symbol w (inl h) = says_letter w h
 says_symbol w (inr h) = subst (λ (v : Text). Says v (v ∷ [])) (sym (same_true w BLANK h)) says_blank
 
 symbol_says : (s : Symbol) → Says s.word (s.word ∷ [])
-symbol_says s = says_symbol s.word (or_cases (is_letter_text s.word) (same s.word BLANK) (holds (is_symbol_text s.word) s.fits))
+symbol_says s = says_symbol s.word (or_cases (is_letter_text s.word) (same s.word BLANK) (passes s))
 
 commas_say : (s : Symbol) (ss : List Symbol) → Says (s.word ++ commas_text ss) (s.word ∷ commas_words ss)
 commas_say s [] = subst (λ (v : Line). Says v (s.word ∷ [])) (sym (append-nil s.word)) (symbol_says s)

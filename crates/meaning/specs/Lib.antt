@@ -2,12 +2,12 @@ pub mod Numbers
 pub mod Codes
 pub mod Blocks
 pub mod Faults
+pub mod FaultOrder
 pub mod Outcome
 pub mod Rules
 pub mod Tables
 pub mod Runs
 pub mod Equal
-pub mod Equality
 pub mod Endless
 pub mod Language
 pub mod TuringMachine

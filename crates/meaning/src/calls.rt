@@ -1,8 +1,3 @@
-ghost use Rattle.std.specs.Prelude.{◌≡◌, Decides};
-ghost use Rattle.std.specs.Cmp.{partial_equiv_from_equiv};
-ghost use Rattle.meaning.specs.Equal.{same_answer};
-ghost use Rattle.meaning.specs.Equality.{same_answer_laws};
-
 use crate::refusals::Refusal;
 use tape::kinds::Direction;
 
@@ -46,8 +41,8 @@ pub struct Report {
     pub code: u8,
 }
 
-// The answer to a call.
-#[derive(Clone, Copy, Debug, Drop)]
+// The answer to a call. `laws::answers_equal` says what `==` tells.
+#[derive(Clone, Copy, Debug, Drop, PartialEq, Eq)]
 pub enum Answer {
     // of a step: the status after it
     Stepped(Status),
@@ -60,47 +55,4 @@ pub enum Answer {
     Reported(Report),
     // of window: its bytes
     Shown([u8; 15]),
-}
-
-// By hand: a must-fail edit turns a line of it.
-impl PartialEq for Answer {
-    ghost eq = { same_answer };
-
-    ghost laws = { partial_equiv_from_equiv same_answer_laws };
-
-    fn eq(&self, other: &Answer) -> bool
-        ensures value { result ≡ same_answer self.now other.now }
-        ensures equal { Decides result (self.now ≡ other.now) }
-    {
-        match *self {
-            Answer::Stepped(a) => match *other {
-                Answer::Stepped(b) => a == b,
-                _ => false,
-            },
-            Answer::Went(m, a) => match *other {
-                Answer::Went(n, b) => m == n && a == b,
-                _ => false,
-            },
-            Answer::Done => match *other {
-                Answer::Done => true,
-                _ => false,
-            },
-            Answer::Refused(a) => match *other {
-                Answer::Refused(b) => a == b,
-                _ => false,
-            },
-            Answer::Reported(a) => match *other {
-                Answer::Reported(b) => a == b,
-                _ => false,
-            },
-            Answer::Shown(a) => match *other {
-                Answer::Shown(b) => a == b,
-                _ => false,
-            },
-        }
-    }
-}
-
-impl Eq for Answer {
-    ghost laws = { same_answer_laws };
 }

@@ -1,31 +1,31 @@
 ghost use Rattle.std.specs.Prelude.{◌≡◌};
 ghost use Rattle.meaning.specs.Numbers.{cause_number, cause_layer};
 
-// Why a source is refused.
-#[derive(Clone, Copy, PartialEq, Eq, Debug, Drop)]
+// Why a source is refused, with its number. Causes are in the order of their numbers.
+#[derive(Clone, Copy, PartialEq, Eq, PartialOrd, Ord, Debug, Drop)]
 pub enum Cause {
     // the source has more than 60,000 bytes
-    Length,
+    Length = 1,
     // a byte belongs to no word and is no separator
-    Byte,
+    Byte = 2,
     // no program can go on after a word, or the source ends too early
-    Word,
+    Word = 3,
     // a case has the depth 17
-    Depth,
+    Depth = 4,
     // the alphabet has blank, or a letter again
-    Alphabet,
+    Alphabet = 5,
     // a module is named accept, reject or as an earlier one
-    ModuleName,
+    ModuleName = 6,
     // a goto's name is no module's
-    Goto,
+    Goto = 7,
     // a letter of a case or a changeto is not in the alphabet
-    Letter,
+    Letter = 8,
     // a symbol stands again in a switch
-    Repeated,
+    Repeated = 9,
     // a symbol is missing in a switch
-    Missing,
+    Missing = 10,
     // a block's number breaks the limits
-    Limit,
+    Limit = 11,
 }
 
 // What a fault is a fault of.
@@ -36,11 +36,12 @@ pub enum Layer {
     Rules,
 }
 
-// The first fault of a source: its cause, and its place.
-#[derive(Clone, Copy, PartialEq, Eq, Debug, Drop)]
+// The first fault of a source: its place, and its cause. Faults are in the order of their places, and of their causes at one place
+// (`laws::faults_in_order`), so the place stands first.
+#[derive(Clone, Copy, PartialEq, Eq, PartialOrd, Ord, Debug, Drop)]
 pub struct Fault {
-    pub cause: Cause,
     pub place: usize,
+    pub cause: Cause,
 }
 
 impl Cause {
@@ -48,19 +49,7 @@ impl Cause {
     pub fn number(self) -> u8
         ensures { result ≡ cause_number self }
     {
-        match self {
-            Cause::Length => 1,
-            Cause::Byte => 2,
-            Cause::Word => 3,
-            Cause::Depth => 4,
-            Cause::Alphabet => 5,
-            Cause::ModuleName => 6,
-            Cause::Goto => 7,
-            Cause::Letter => 8,
-            Cause::Repeated => 9,
-            Cause::Missing => 10,
-            Cause::Limit => 11,
-        }
+        self as u8
     }
 
     // The layer that the cause belongs to.
@@ -68,17 +57,15 @@ impl Cause {
         ensures { result ≡ cause_layer self }
     {
         match self {
-            Cause::Length => Layer::Bytes,
-            Cause::Byte => Layer::Bytes,
-            Cause::Word => Layer::Words,
-            Cause::Depth => Layer::Words,
-            Cause::Alphabet => Layer::Rules,
-            Cause::ModuleName => Layer::Rules,
-            Cause::Goto => Layer::Rules,
-            Cause::Letter => Layer::Rules,
-            Cause::Repeated => Layer::Rules,
-            Cause::Missing => Layer::Rules,
-            Cause::Limit => Layer::Rules,
+            Cause::Length | Cause::Byte => Layer::Bytes,
+            Cause::Word | Cause::Depth => Layer::Words,
+            Cause::Alphabet
+            | Cause::ModuleName
+            | Cause::Goto
+            | Cause::Letter
+            | Cause::Repeated
+            | Cause::Missing
+            | Cause::Limit => Layer::Rules,
         }
     }
 }

@@ -3,9 +3,11 @@
 ghost use Rattle.meaning.specs.Borders.{Borders};
 ghost use Rattle.meaning.specs.Codes.{CodesAre};
 ghost use Rattle.meaning.specs.Completed.{Completion};
+ghost use Rattle.meaning.specs.Equal.{AnswersEqual};
 ghost use Rattle.meaning.specs.Exact.{Exact};
 ghost use Rattle.meaning.specs.Examples.{Examples};
 ghost use Rattle.meaning.specs.Faults.{TellsLowest};
+ghost use Rattle.meaning.specs.FaultOrder.{FaultsInOrder};
 ghost use Rattle.meaning.specs.Follows.{BlocksFollow, TablesFollow, ExecutesAlike};
 ghost use Rattle.meaning.specs.Laws.{Agreement, Composition, KeepsTapes, NoShape};
 ghost use Rattle.meaning.specs.NextBlock.{NextBlocks};
@@ -27,6 +29,11 @@ pub fn exact_outcome()
 // What is told of a program that breaks rules is its lowest violation.
 pub fn tells_lowest()
     ensures { TellsLowest }
+{}
+
+// Faults are ordered as their violations are: by their places, and there by their causes' numbers.
+pub fn faults_in_order()
+    ensures { FaultsInOrder }
 {}
 
 // When no violation has a cause, in the words of the subject, for each cause.
@@ -81,6 +88,11 @@ pub fn composition()
 // Every call keeps the ranges of a tape.
 pub fn keeps_tapes()
     ensures { KeepsTapes }
+{}
+
+// `==` tells of two answers whether they are of one kind, with the same parts, and so whether they are equal.
+pub fn answers_equal()
+    ensures { AnswersEqual }
 {}
 
 // No call on a tape answers `Shape`.

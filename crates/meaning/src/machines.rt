@@ -16,7 +16,8 @@ pub struct Action {
     pub next: Next,
 }
 
-// What a table has for a state and a symbol.
+// What a table has for a state and a symbol. An entry always writes, so it is no `Action`; one struct over the type of `write` would be
+// no plainer, since each place that names one of the two would then name that type.
 #[derive(Clone, Copy, PartialEq, Eq, Debug, Drop)]
 pub struct Entry {
     pub write: u8,

@@ -3,25 +3,26 @@ ghost use Rattle.meaning.specs.Numbers.{refusal_number, from_tape};
 
 use tape::kinds::TapeRefusal;
 
-// Why a call on a run is refused.
+// Why a call on a run is refused, with its number. The three refusals of tapes are variants here too: with a `TapeRefusal` inside,
+// a call on a run could be refused for a `Shape`, which only the making of a tape is.
 #[derive(Clone, Copy, PartialEq, Eq, Debug, Drop)]
 pub enum Refusal {
     // the code is above 36
-    Code,
+    Code = 12,
     // there is no cell that way
-    Edge,
+    Edge = 13,
     // as many cells are nonblank as may be
-    Capacity,
+    Capacity = 14,
     // the run has a verdict
-    Verdict,
+    Verdict = 15,
     // the run's number is none of the machine's
-    Number,
+    Number = 16,
     // the machine does not know the symbol at the head
-    Symbol,
+    Symbol = 17,
     // the step total is at its limit
-    Total,
+    Total = 18,
     // the fuel is above its limit
-    Fuel,
+    Fuel = 19,
 }
 
 impl Refusal {
@@ -29,16 +30,7 @@ impl Refusal {
     pub fn number(self) -> u8
         ensures { result ≡ refusal_number self }
     {
-        match self {
-            Refusal::Code => 12,
-            Refusal::Edge => 13,
-            Refusal::Capacity => 14,
-            Refusal::Verdict => 15,
-            Refusal::Number => 16,
-            Refusal::Symbol => 17,
-            Refusal::Total => 18,
-            Refusal::Fuel => 19,
-        }
+        self as u8
     }
 }
 
@@ -48,10 +40,9 @@ impl From<TapeRefusal> for Refusal {
 
     fn from(refusal: TapeRefusal) -> Refusal {
         match refusal {
-            TapeRefusal::Code => Refusal::Code,
+            TapeRefusal::Code | TapeRefusal::Shape => Refusal::Code,
             TapeRefusal::Edge => Refusal::Edge,
             TapeRefusal::Capacity => Refusal::Capacity,
-            TapeRefusal::Shape => Refusal::Code,
         }
     }
 }
