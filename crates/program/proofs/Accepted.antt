@@ -1,7 +1,7 @@
 -- A program without violations is in range.
-use Rattle.std.proofs.Common.{◌≡◌, ℕ, suc, ◌+◌, ◌<◌, Bool, true, false, cond, not, ◌&&◌, ◌||◌, eqb, leb, List, [], ◌∷◌, ◌++◌, map, length, Some, None, Option, sym, refl, ap, ◌∙◌, arith, length-append}
+use Rattle.std.proofs.Common.{◌≡◌, ℕ, suc, ◌+◌, ◌<◌, Bool, true, false, cond, not, ◌&&◌, ◌||◌, leb, List, [], ◌∷◌, ◌++◌, map, length, Some, None, Option, sym, refl, ap, ◌∙◌, arith, length-append}
 use mathlib.Core.Option.{none, some}
-use Rattle.std.proofs.lemmas.Bool.{and_from, eq-eqb, lt-ltb, le-leb, not-false, false≢true}
+use Rattle.std.proofs.lemmas.Bool.{and_from, lt-ltb, le-leb, not-false, false≢true}
 use Rattle.words.specs.Bytes.{Text}
 use Rattle.words.specs.Vocabulary.{same}
 use Rattle.grammar.specs.Tree.{Body, act_cases, acts_flow, Case, if, while, Cases, no_more, more, Inside, cases, body, Module, module', program}
@@ -18,7 +18,7 @@ use Rattle.meaning.proofs.Ranges.{nil_parts, no_flag, each-++, fewer, not_there,
 use Rattle.program.specs.Store.{all_among, write_fits, then_fits, basic_fits}
 use Rattle.program.specs.Arms.{arms_fit, switch_fits}
 use Rattle.program.specs.Ranges.{arm_codes}
-use Rattle.program.specs.Built.{kind_fits, blocks_fit}
+use Rattle.program.specs.InRange.{kind_fits, blocks_fit}
 use Rattle.program.specs.Laws.{AcceptedFit}
 use Rattle.program.proofs.Whole.{fewer_among}
 
@@ -29,11 +29,11 @@ symbols_told cols seen (s ∷ ss) e =
     let p = nil_parts (cond (member s.0 cols) (flag (member s.0 seen) s.1 Repeated) (flag true s.1 Letter)) (symbol_faults cols (s.0 ∷ seen) ss) e in
     let r = symbols_told cols (s.0 ∷ seen) ss p.1 in
     let h = at (member s.0 cols) p.0 in
-    (and_from (member s.0 cols) (all_among (codes_of ss) cols) h.0 r.0, (h.1, fewer s.0 seen (codes_of ss) r.1), and_from (not (member s.0 (codes_of ss))) (different (codes_of ss)) (ap not (not_there s.0 seen (codes_of ss) r.1)) r.2)
+    (grind arith, (h.1, fewer s.0 seen (codes_of ss) r.1), grind (arith, not_there s.0 seen (codes_of ss) r.1))
   where
     at : (b : Bool) → cond b (flag (member s.0 seen) s.1 Repeated) (flag true s.1 Letter) ≡ [] → (b ≡ true) × (member s.0 seen ≡ false)
     at true f = (refl, no_flag (member s.0 seen) s.1 Repeated f)
-    at false f = let z : ◌≡◌ {A = ℕ} 0 1 = cc in absurd (omega arith)
+    at false f = absurd (grind arith)
 
 -- the codes of a switch, in its faults and in its arms
 abbrev heads : List (ℕ × Basic Text) → List ℕ
@@ -66,15 +66,18 @@ module _ (cols : List ℕ) (ns : List Text) (differ : different cols ≡ true) w
   Whole b = KindWhole b.kind
 
   whole_fits : (cs : List ℕ) → all_among cs cols ≡ true → all_among cols cs ≡ true → different cs ≡ true → switch_fits cols cs ≡ true
-  whole_fits cs a b d =
-      and_from (eqb (length cs) (length cols)) _ (eq-eqb (length cs) (length cols) (omega (arith, fewer_among cs cols d a, fewer_among cols cs differ b))) (and_from (all_among cols cs) (all_among cs cols) b a)
+  whole_fits cs a b d = grind (arith, fewer_among cs cols d a, fewer_among cols cs differ b)
+
+  covered_all : (cs those : List ℕ) → covered cs those ≡ all_among cs those
+  covered_all [] those = refl
+  covered_all (c ∷ cs) those = ap (λ b. member c those && b) (covered_all cs those)
 
   switch_told : (c : Case) (cs : Cases) (j : ℕ) → switch_faults k (more c cs) j ≡ [] → switch_fits cols (codes_of (switch_symbols (more c cs) j)) ≡ true
   switch_told c cs j e =
       let ss = switch_symbols (more c cs) j in
       let p = nil_parts (symbol_faults cols [] ss) (flag (not (covered cols (codes_of ss))) j Missing) e in
       let r = symbols_told cols [] ss p.0 in
-      whole_fits (codes_of ss) r.0 (not-false (covered cols (codes_of ss)) (no_flag (not (covered cols (codes_of ss))) j Missing p.1)) r.2
+      whole_fits (codes_of ss) r.0 (sym (covered_all cols (codes_of ss)) ∙ not-false (covered cols (codes_of ss)) (no_flag (not (covered cols (codes_of ss))) j Missing p.1)) r.2
 
   -- basic blocks are none
   parts_whole : (ps : List Part) (behind : Bool) (i q : ℕ) → Each Whole (part_blocks ps behind i q)
@@ -147,11 +150,11 @@ module _ (cols : List ℕ) (ns : List Text) (differ : different cols ≡ true) w
     then_settled end h = refl
 
     basic_settled : (b : Basic Text) → BasicWithin cols ns n b → basic_fits cols n (settled_basic at b) ≡ true
-    basic_settled b h = and_from (write_fits cols b.write) (then_fits n (settled_then at b.then)) (write_settled b.write h.0) (then_settled b.then h.1)
+    basic_settled b h = grind (arith, write_settled b.write h.0, then_settled b.then h.1)
 
     arms_settled : (as' : List (ℕ × Basic Text)) → Each (λ (a : ℕ × Basic Text). BasicWithin cols ns n a.1) as' → arms_fit cols n (settled_arms at as') ≡ true
     arms_settled [] h = refl
-    arms_settled (a ∷ as') h = and_from (basic_fits cols n (settled_basic at a.1)) (arms_fit cols n (settled_arms at as')) (basic_settled a.1 h.0) (arms_settled as' h.1)
+    arms_settled (a ∷ as') h = grind (arith, basic_settled a.1 h.0, arms_settled as' h.1)
 
     heads_settled : (as' : List (ℕ × Basic Text)) → arm_codes (settled_arms at as') ≡ heads as'
     heads_settled [] = refl
@@ -159,12 +162,11 @@ module _ (cols : List ℕ) (ns : List Text) (differ : different cols ≡ true) w
 
     kind_settled : (x : Kind Text) → KindWithin cols ns n x → KindWhole x → kind_fits cols n (settled_kind at x) ≡ true
     kind_settled (basic b) h v = basic_settled b h
-    kind_settled (switch as') h v =
-        and_from (switch_fits cols (arm_codes (settled_arms at as'))) (arms_fit cols n (settled_arms at as')) (ap (switch_fits cols) (heads_settled as') ∙ v) (arms_settled as' h)
+    kind_settled (switch as') h v = grind (arith, heads_settled as', arms_settled as' h)
 
     all_settled : (bs : List (Block Text)) → Each (BlockWithin cols ns n) bs → Each Whole bs → blocks_fit cols n (kinds (settled at bs)) ≡ true
     all_settled [] h v = refl
-    all_settled (b ∷ bs) h v = and_from (kind_fits cols n (settled_kind at b.kind)) (blocks_fit cols n (kinds (settled at bs))) (kind_settled b.kind h.0 v.0) (all_settled bs h.1 v.1)
+    all_settled (b ∷ bs) h v = grind (arith, kind_settled b.kind h.0 v.0, all_settled bs h.1 v.1)
 
 -- a module's first block is one of the program's
 start_below : (ms : List Module) (i q : ℕ) (w : Text) → named w (module_names ms) ≡ true → start_in ms i q w < q + length (modules_blocks ms i q)

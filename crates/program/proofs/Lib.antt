@@ -1,10 +1,10 @@
-pub mod Actions
+pub mod Rows
 pub mod Ranged
-pub mod ArmSteps
 pub mod Whole
-pub mod Building
+pub mod Switches
 pub mod Written
+pub mod Building
 pub mod Pushed
-pub mod Fitting
+pub mod Found
 pub mod Filled
 pub mod Accepted

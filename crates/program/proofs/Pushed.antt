@@ -1,160 +1,190 @@
--- A builder before and after one block more.
-use Rattle.std.proofs.Common.{◌≡◌, ℕ, ◌+◌, ◌*◌, ◌<◌, ◌≤◌, Bool, true, false, not, ◌||◌, eqb, ltb, leb, List, [], ◌∷◌, ◌++◌, length, get_or, take, drop, set, sym, refl, ap, ◌∙◌, add-zero, arith}
+-- A store before and after one block more.
+use Rattle.std.proofs.Common.{◌≡◌, ℕ, ◌+◌, ◌*◌, ◌<◌, ◌≤◌, Bool, true, false, cond, not, ◌&&◌, ◌||◌, eqb, ltb, leb, List, [], ◌∷◌, ◌++◌, length, get_or, take, drop, set, Ok, Err, sym, refl, ap, ◌∙◌, add-zero, arith, length-append, length-set}
 use lib.ListN.{length-map}
-use Rattle.std.proofs.lemmas.List.FromFn.{length-map-range_with_len}
 use Rattle.std.proofs.lemmas.List.{get_or-set_same, get_or-set_other, get_or-drop}
-use Rattle.std.proofs.lemmas.Bool.{and_parts, or_parts, not-true, eqb-true, ltb-true, ltb-false, le-ltb, lt-ltb, le-leb, lt-leb}
+use Rattle.std.proofs.lemmas.Bool.{and_parts, eqb-true}
+use Rattle.bounded.specs.Inline.{items_of, space_answer, extended}
 use Rattle.meaning.specs.Blocks.{Kind, basic, switch}
 use Rattle.meaning.specs.Faults.{too_many}
-use Rattle.alphabet.proofs.Places.{width_is}
-use Rattle.program.specs.declared.builder.Builder.{Builder}
-use Rattle.program.specs.declared.blocks.Basic.{Basic as Slot}
+use Rattle.program.specs.declared.store.Store.{Store}
+use Rattle.program.specs.declared.builder.BuildRefusal.TheVariants.{NoRoom}
 use Rattle.program.specs.declared.blocks.Arm.{Arm}
 use Rattle.program.specs.declared.blocks.Shape.{Shape}
 use Rattle.program.specs.declared.blocks.Shape.TheVariants.{Single, Switch}
-use Rattle.program.specs.Store.{basic_of, unused, arms_of, kind_of, row_symbols, kind_in, kinds_of, all_among, covers, all_cover}
+use Rattle.program.specs.Store.{Slot, basic_of, unused, arms_of, row_symbols, kinds_of, all_among, covers, AllCover}
 use Rattle.program.specs.Spare.{Bare, Spare}
 use Rattle.program.specs.Arms.{codes_of, arms_in, codes_put, slots_put, switch_fits}
-use Rattle.program.specs.Built.{builder_columns, built, has_room}
-use Rattle.program.proofs.Building.{row_end, one_more, covers_more, bare_more}
+use Rattle.program.specs.Place.{columns_of, count_of, stored}
+use Rattle.program.specs.Built.{with_block, has_room, takes_switch}
+use Rattle.program.proofs.Rows.{counted, some_column, row_end}
+use Rattle.program.proofs.Building.{one_more, covers_more, bare_more}
 use Rattle.program.proofs.Whole.{whole_different}
-use Rattle.program.proofs.Written.{codes_before, codes_row, slots_before, slots_after, slots_row}
+use Rattle.program.proofs.Written.{codes_length, codes_before, codes_row, slots_length, slots_before, slots_after, slots_row}
 
--- at most is not more
-most_is : (a b : ℕ) → leb a b ≡ not (ltb b a)
-most_is a b = at (ltb b a) refl
-  where
-    at : (v : Bool) → ltb b a ≡ v → leb a b ≡ not v
-    at true e = lt-leb a b (ltb-true b a e)
-    at false e = le-leb a b (ltb-false b a e)
+-- what every store keeps
+pub record Keeps (cols : List ℕ) (shapes : List Shape) (order : List ℕ) (slots : List Slot) : Type 0 where
+  pub listed : length order ≡ 1024
+  pub whole : length slots ≡ 1024
+  pub room : length shapes * length cols ≤ 1024
+  pub covered : AllCover cols shapes order
+  pub bare : Bare (length cols) shapes slots
+  pub spare : Spare slots (length shapes * length cols)
 
-module _ (b : Builder) where
+-- the tests of a count and of the slots
+room_test : (a b : ℕ) → not (ltb 128 (a + 1) || ltb 1024 b) ≡ ltb a 128 && leb b 1024
+room_test a b = grind arith
+
+module _ (s : Store) where
   abbrev cols : List ℕ
-  cols = builder_columns b
+  cols = columns_of s
 
-  pub some : 0 < length cols
-  some = omega (arith, width_is b.alphabet)
+  abbrev n : ℕ
+  n = count_of s
 
-  pub counted : length (built b).blocks ≡ b.count
-  counted = length-map-range_with_len (kind_in cols b.shapes b.order b.slots) 0 b.count
+  abbrev w : ℕ
+  w = length cols
 
-  room_is : has_room (built b) ≡ not (too_many (b.count + 1) (length cols))
-  room_is = ap (λ n. not (too_many (n + 1) (length cols))) counted
+  abbrev shapes : List Shape
+  shapes = items_of s.shapes
 
-  -- what a number that is left tells
-  pub room_parts : has_room (built b) ≡ true → (b.count < 128) × ((b.count + 1) * length cols ≤ 1024)
-  room_parts h =
-      let p = or_parts (ltb 128 (b.count + 1)) (ltb 1024 ((b.count + 1) * length cols)) (not-true (too_many (b.count + 1) (length cols)) (sym room_is ∙ h)) in
-      (let z = ltb-false 128 (b.count + 1) p.0 in omega arith, ltb-false 1024 ((b.count + 1) * length cols) p.1)
+  -- whether there is room
+  pub room_is : has_room (stored s) ≡ ltb n 128 && leb ((n + 1) * w) 1024
+  room_is = ap (λ m. not (too_many (m + 1) w)) (counted s) ∙ room_test n ((n + 1) * w)
 
-  pub row_room : has_room (built b) ≡ true → b.count * length cols + length cols ≤ 1024
-  row_room h = omega (arith, row_end b.count (b.count + 1) (length cols) (omega arith), (room_parts h).1)
+  module _ (room : has_room (stored s) ≡ true) where
+    room_parts : (n < 128) × ((n + 1) * w ≤ 1024)
+    room_parts = (grind (arith, room_is), grind (arith, room_is))
 
-  -- where it is tested
-  pub room_none : 128 ≤ b.count → false ≡ has_room (built b)
-  room_none h = sym (room_is ∙ ap (λ v. not (v || ltb 1024 ((b.count + 1) * length cols))) (lt-ltb 128 (b.count + 1) (omega arith)))
+    pub row_room : n * w + w ≤ 1024
+    row_room = omega (arith, row_end n (n + 1) w (omega arith), room_parts.1)
 
-  pub room_by : (w : ℕ) → b.count < 128 → w ≡ length cols → leb ((b.count + 1) * w) 1024 ≡ has_room (built b)
-  room_by w h e =
-      ap (λ x. leb ((b.count + 1) * x) 1024) e ∙ most_is ((b.count + 1) * length cols) 1024 ∙ ap (λ v. not (v || ltb 1024 ((b.count + 1) * length cols))) (sym (le-ltb 128 (b.count + 1) (omega arith))) ∙ sym room_is
+    pub pushed : (x : Shape) → extended 128 shapes (x ∷ []) ≡ shapes ++ x ∷ []
+    pushed x = grind (arith, room_parts.0)
 
-  -- another shape at the new number
-  new_shape : (s : Shape) → b.count < 128 → get_or (set b.shapes b.count s) b.count Single ≡ s
-  new_shape s h = let z = b.shaped in get_or-set_same b.shapes b.count s Single (omega arith)
+    more_room : (x : Shape) → length (shapes ++ x ∷ []) * w ≤ 1024
+    more_room x = rw (length-append shapes (x ∷ [])) room_parts.1
 
-  old_shapes : (s : Shape) (q : ℕ) → q < b.count → get_or (set b.shapes b.count s) q Single ≡ get_or b.shapes q Single
-  old_shapes s q h = get_or-set_other b.shapes b.count q s Single (λ e. omega arith)
+    -- where the row of one more number ends
+    more_end : (x : Shape) → n * w + w ≤ length (shapes ++ x ∷ []) * w
+    more_end x = row_end n (length (shapes ++ x ∷ [])) w (omega (arith, length-append shapes (x ∷ [])))
 
-  abbrev AllCover : List Shape → List ℕ → Type 0
-  AllCover shapes order = all_cover cols shapes order (b.count + 1) ≡ true
+    -- a basic block more
+    module _ (new : Slot) where
+      abbrev filled : List Slot
+      filled = set s.slots (n * w) new
 
-  abbrev OneMore : List Shape → List ℕ → List Slot → Kind ℕ → Type 0
-  OneMore shapes order slots k = kinds_of cols shapes order slots (b.count + 1) ≡ (built b).blocks ++ k ∷ []
+      filled_before : (i : ℕ) → i < n * w → get_or filled i unused ≡ get_or s.slots i unused
+      filled_before i h = get_or-set_other s.slots (n * w) i new unused (λ e. omega arith)
 
-  -- a basic block more
-  module _ (place : ℕ) (new : Slot) (at : place ≡ b.count * length cols) (room : has_room (built b) ≡ true) where
-    pub basic_place : place < 1024
-    basic_place = omega (arith, row_room room, some)
+      filled_after : (i : ℕ) → n * w < i → get_or filled i unused ≡ unused
+      filled_after i h = get_or-set_other s.slots (n * w) i new unused (λ e. omega arith) ∙ s.spare i (omega arith)
 
-    basic_slots : (i : ℕ) → i < b.count * length cols → get_or (set b.slots place new) i unused ≡ get_or b.slots i unused
-    basic_slots i h = get_or-set_other b.slots place i new unused (λ e. omega arith)
+      pub basic_keeps : Keeps cols (shapes ++ Single ∷ []) s.order filled
+      basic_keeps = record {
+        listed = s.listed;
+        whole = length-set s.slots (n * w) new ∙ s.whole;
+        room = more_room Single;
+        covered = covers_more cols shapes Single s.order s.order s.slots filled refl filled_before s.covered refl;
+        bare = bare_more cols shapes Single s.order s.order s.slots filled refl filled_before s.covered s.bare (λ _ i l m. filled_after (n * w + i) (omega arith));
+        spare = λ i h. filled_after i (omega (arith, more_end Single, some_column s));
+      }
 
-    pub basic_covers : AllCover (set b.shapes b.count Single) b.order
-    basic_covers = covers_more cols b.shapes (set b.shapes b.count Single) b.order b.order b.slots (set b.slots place new) b.count (old_shapes Single) refl basic_slots b.covered
-        (ap (λ s. covers cols s (row_symbols cols b.order b.count)) (new_shape Single (room_parts room).0))
+      pub basic_more : kinds_of cols (shapes ++ Single ∷ []) s.order filled ≡ (stored s).blocks ++ basic (basic_of new) ∷ []
+      basic_more =
+          let whole = s.whole in
+          let here : get_or (drop (n * w) filled) 0 unused ≡ new =
+          get_or-drop (n * w) filled 0 unused ∙ ap (λ i. get_or filled i unused) (add-zero (n * w)) ∙ get_or-set_same s.slots (n * w) new unused (omega (arith, row_room, some_column s)) in
+          one_more cols shapes Single s.order s.order s.slots filled refl filled_before s.covered (basic (basic_of new)) (some_column s) (ap (λ x. basic (basic_of x)) here)
 
-    pub basic_bare : Bare (length cols) (set b.shapes b.count Single) (set b.slots place new) (b.count + 1)
-    basic_bare = bare_more cols b.shapes (set b.shapes b.count Single) b.order b.order b.slots (set b.slots place new) b.count (old_shapes Single) refl basic_slots b.covered b.bare
-        (λ s i l m. get_or-set_other b.slots place (b.count * length cols + i) new unused (λ e. omega arith) ∙ b.spare (b.count * length cols + i) (omega arith))
+    -- a switch more
+    module _ (arms : List (Arm ℕ)) (fits : switch_fits cols (codes_of arms) ≡ true) where
+      abbrev cs : List ℕ
+      cs = codes_of arms
 
-    pub basic_spare : Spare (set b.slots place new) ((b.count + 1) * length cols)
-    basic_spare i h =
-        let end : b.count * length cols + length cols ≤ (b.count + 1) * length cols = row_end b.count (b.count + 1) (length cols) (omega arith) in
-        get_or-set_other b.slots place i new unused (λ e. omega (arith, some)) ∙ b.spare i (omega arith)
+      parts : (eqb (length cs) w ≡ true) × (covers cols Switch cs ≡ true)
+      parts = and_parts (eqb (length cs) w) (covers cols Switch cs) fits
 
-    pub basic_more : OneMore (set b.shapes b.count Single) b.order (set b.slots place new) (basic (basic_of new))
-    basic_more =
-        let w = length cols in
-        let slots = set b.slots place new in
-        let whole = b.whole in
-        let here : get_or (drop (b.count * w) slots) 0 unused ≡ new =
-        get_or-drop (b.count * w) slots 0 unused ∙ ap (λ i. get_or slots i unused) (add-zero (b.count * w) ∙ sym at) ∙ get_or-set_same b.slots place new unused (omega (arith, basic_place)) in
-        one_more cols b.shapes (set b.shapes b.count Single) b.order b.order b.slots slots b.count (old_shapes Single) refl basic_slots b.covered (basic (basic_of new)) some
-        (ap (λ s. kind_of cols s (row_symbols cols b.order b.count) (drop (b.count * w) slots)) (new_shape Single (room_parts room).0) ∙ ap (λ s. basic (basic_of s)) here)
+      wide : length cs ≡ w
+      wide = eqb-true (length cs) w parts.0
 
-  -- a switch more
-  module _ (place : ℕ) (arms : List Arm) (at : place ≡ b.count * length cols) (room : has_room (built b) ≡ true) (fits : switch_fits cols (codes_of arms) ≡ true) where
-    parts : (eqb (length (codes_of arms)) (length cols) ≡ true) × (covers cols Switch (codes_of arms) ≡ true)
-    parts = and_parts (eqb (length (codes_of arms)) (length cols)) (covers cols Switch (codes_of arms)) fits
+      pub arms_room : n * w + length arms ≤ 1024
+      arms_room = omega (arith, row_room, wide, length-map arms (λ (a : Arm ℕ). a.code))
 
-    wide : length (codes_of arms) ≡ length cols
-    wide = eqb-true (length (codes_of arms)) (length cols) parts.0
+      abbrev order : List ℕ
+      order = codes_put (n * w) cs s.order
 
-    among : (all_among cols (codes_of arms) ≡ true) × (all_among (codes_of arms) cols ≡ true)
-    among = and_parts (all_among cols (codes_of arms)) (all_among (codes_of arms) cols) parts.1
+      abbrev slots : List Slot
+      slots = slots_put cols (n * w) arms s.slots
 
-    pub arms_room : place + length arms ≤ 1024
-    arms_room = omega (arith, row_room room, wide, length-map arms (λ a. a.code))
+      same_order : take (n * w) order ≡ take (n * w) s.order
+      same_order = codes_before (n * w) (n * w) cs s.order (omega arith)
 
-    module _ (order : List ℕ) (slots : List Slot) (listed : order ≡ codes_put place (codes_of arms) b.order) (whole : slots ≡ slots_put cols place arms b.slots) where
-      abbrev shapes : List Shape
-      shapes = set b.shapes b.count Switch
+      same_slots : (i : ℕ) → i < n * w → get_or slots i unused ≡ get_or s.slots i unused
+      same_slots = slots_before cols (n * w) arms s.slots
 
-      listed_at : order ≡ codes_put (b.count * length cols) (codes_of arms) b.order
-      listed_at = listed ∙ ap (λ i. codes_put i (codes_of arms) b.order) at
+      new_row : row_symbols cols order n ≡ cs
+      new_row = ap (λ k. take k (drop (n * w) order)) (sym wide) ∙ codes_row (n * w) cs s.order (let z = s.listed in omega (arith, row_room, wide))
 
-      whole_at : slots ≡ slots_put cols (b.count * length cols) arms b.slots
-      whole_at = whole ∙ ap (λ i. slots_put cols i arms b.slots) at
+      pub switch_keeps : Keeps cols (shapes ++ Switch ∷ []) order slots
+      switch_keeps = record {
+        listed = codes_length (n * w) cs s.order ∙ s.listed;
+        whole = slots_length cols (n * w) arms s.slots ∙ s.whole;
+        room = more_room Switch;
+        covered = covers_more cols shapes Switch s.order order s.slots slots same_order same_slots s.covered (ap (covers cols Switch) new_row ∙ parts.1);
+        bare = bare_more cols shapes Switch s.order order s.slots slots same_order same_slots s.covered s.bare (λ e. cc);
+        spare = λ i h. slots_after cols (n * w) arms s.slots i (omega (arith, more_end Switch)) ∙ s.spare i (omega (arith, more_end Switch));
+      }
 
-      same_order : take (b.count * length cols) order ≡ take (b.count * length cols) b.order
-      same_order = ap (take (b.count * length cols)) listed_at ∙ codes_before (b.count * length cols) (b.count * length cols) (codes_of arms) b.order (omega arith)
-
-      same_slots : (i : ℕ) → i < b.count * length cols → get_or slots i unused ≡ get_or b.slots i unused
-      same_slots i h = ap (λ l. get_or l i unused) whole_at ∙ slots_before cols (b.count * length cols) arms b.slots i h
-
-      new_row : row_symbols cols order b.count ≡ codes_of arms
-      new_row =
-          ap (λ n. take n (drop (b.count * length cols) order)) (sym wide) ∙ ap (λ l. take (length (codes_of arms)) (drop (b.count * length cols) l)) listed_at
-          ∙ codes_row (b.count * length cols) (codes_of arms) b.order (let z = b.listed in omega (arith, row_room room, wide))
-
-      pub switch_covers : AllCover shapes order
-      switch_covers = covers_more cols b.shapes shapes b.order order b.slots slots b.count (old_shapes Switch) same_order same_slots b.covered
-          (ap (λ s. covers cols s (row_symbols cols order b.count)) (new_shape Switch (room_parts room).0) ∙ ap (covers cols Switch) new_row ∙ parts.1)
-
-      pub switch_bare : Bare (length cols) shapes slots (b.count + 1)
-      switch_bare = bare_more cols b.shapes shapes b.order order b.slots slots b.count (old_shapes Switch) same_order same_slots b.covered b.bare
-          (λ s i l m. let z = new_shape Switch (room_parts room).0 in cc)
-
-      pub switch_spare : Spare slots ((b.count + 1) * length cols)
-      switch_spare i h =
-          let end : b.count * length cols + length cols ≤ (b.count + 1) * length cols = row_end b.count (b.count + 1) (length cols) (omega arith) in
-          ap (λ l. get_or l i unused) whole_at ∙ slots_after cols (b.count * length cols) arms b.slots i (omega arith) ∙ b.spare i (omega arith)
-
-      pub switch_more : OneMore shapes order slots (switch (arms_in arms))
+      pub switch_more : kinds_of cols (shapes ++ Switch ∷ []) order slots ≡ (stored s).blocks ++ switch (arms_in arms) ∷ []
       switch_more =
-          let base = b.count * length cols in
-          let row : arms_of cols (codes_of arms) (drop base slots) ≡ arms_in arms =
-          ap (λ l. arms_of cols (codes_of arms) (drop base l)) whole_at
-          ∙ slots_row cols base arms b.slots among.1 (whole_different (codes_of arms) cols b.alphabet.differ among.0 (omega (arith, wide))) (let z = b.whole in omega (arith, row_room room)) in
-          one_more cols b.shapes shapes b.order order b.slots slots b.count (old_shapes Switch) same_order same_slots b.covered (switch (arms_in arms)) some
-          (ap (λ s. kind_of cols s (row_symbols cols order b.count) (drop base slots)) (new_shape Switch (room_parts room).0) ∙ ap (λ l. switch (arms_of cols l (drop base slots))) new_row ∙ ap switch row)
+          let among = and_parts (all_among cols cs) (all_among cs cols) parts.1 in
+          let apart = whole_different cs cols s.alphabet.differ among.0 among.1 wide in
+          let row : arms_of cols cs (drop (n * w) slots) ≡ arms_in arms = slots_row cols (n * w) arms s.slots among.1 apart (let z = s.whole in omega (arith, row_room)) in
+          one_more cols shapes Switch s.order order s.slots slots same_order same_slots s.covered (switch (arms_in arms)) (some_column s)
+          (ap (λ l. switch (arms_of cols l (drop (n * w) slots))) new_row ∙ ap switch row)
+
+-- a row that is answered is that of the next number
+row_found : (b : Bool) (place row : ℕ) → Ok place ≡ cond b (Ok row) (Err NoRoom) → (b ≡ true) × (place ≡ row)
+row_found true place row e = (refl, cc)
+row_found false place row e = let z : ◌≡◌ {A = ℕ} 0 1 = cc in absurd (omega arith)
+
+-- a push, by the row that was answered to it and the shapes after it
+module _ (s : Store) (place : ℕ) (row : Ok place ≡ cond (has_room (stored s)) (Ok (count_of s * length (columns_of s))) (Err NoRoom)) where
+  found : (has_room (stored s) ≡ true) × (place ≡ count_of s * length (columns_of s))
+  found = row_found (has_room (stored s)) place (count_of s * length (columns_of s)) row
+
+  pub push_answered : space_answer 128 (items_of s.shapes) 1 ≡ Ok tt
+  push_answered = grind (arith, room_parts s found.0)
+
+  pub row_below : place + length (columns_of s) ≤ 1024
+  row_below = omega (arith, found.1, row_room s found.0)
+
+  pub arms_below : (arms : List (Arm ℕ)) → switch_fits (columns_of s) (codes_of arms) ≡ true → place + length arms ≤ 1024
+  arms_below arms fits = omega (arith, found.1, arms_room s found.0 arms fits)
+
+  abbrev Blocks : List Shape → List ℕ → List Slot → Kind ℕ → Bool → Type 0
+  Blocks shapes order slots k b = record { letters = (stored s).letters; blocks = kinds_of (columns_of s) shapes order slots } ≡ cond b (with_block (stored s) k) (stored s)
+
+  module _ (new : Slot) (shapes : List Shape) (more : shapes ≡ extended 128 (items_of s.shapes) (Single ∷ [])) where
+    one : shapes ≡ items_of s.shapes ++ Single ∷ []
+    one = more ∙ pushed s found.0 Single
+
+    pub basic_kept : Keeps (columns_of s) shapes s.order (set s.slots place new)
+    basic_kept = rw one (rw found.1 (basic_keeps s found.0 new))
+
+    pub basic_built : Blocks shapes s.order (set s.slots place new) (basic (basic_of new)) (has_room (stored s))
+    basic_built = rw one (rw found.1 (rw found.0 (ap (λ l. record { letters = (stored s).letters; blocks = l }) (basic_more s found.0 new))))
+
+  module _ (arms : List (Arm ℕ)) (fits : switch_fits (columns_of s) (codes_of arms) ≡ true) (shapes : List Shape) (more : shapes ≡ extended 128 (items_of s.shapes) (Switch ∷ []))
+      (order : List ℕ) (listed : order ≡ codes_put place (codes_of arms) s.order) (slots : List Slot) (whole : slots ≡ slots_put (columns_of s) place arms s.slots) where
+    another : shapes ≡ items_of s.shapes ++ Switch ∷ []
+    another = more ∙ pushed s found.0 Switch
+
+    pub switch_kept : Keeps (columns_of s) shapes order slots
+    switch_kept = rw another (rw listed (rw whole (rw found.1 (switch_keeps s found.0 arms fits))))
+
+    pub switch_built : Blocks shapes order slots (switch (arms_in arms)) (takes_switch (stored s) (codes_of arms))
+    switch_built = rw another (rw listed (rw whole (rw found.1 (rw found.0 (rw fits (ap (λ l. record { letters = (stored s).letters; blocks = l }) (switch_more s found.0 arms fits)))))))
+
+-- what a push needs
+pub ruleset pushing = (some_column, push_answered, row_below, arms_below, basic_built, switch_built)

@@ -1,19 +1,18 @@
 -- The arrays after the arms of a switch are written.
-use Rattle.std.proofs.Common.{◌≡◌, ℕ, suc, ◌+◌, ◌<◌, ◌≤◌, Bool, true, false, cond, not, ◌||◌, eqb, List, [], ◌∷◌, length, get_or, take, drop, set, Some, None, Option, sym, refl, ap, ◌∙◌, arith}
+use Rattle.std.proofs.Common.{◌≡◌, ℕ, ◌+◌, ◌<◌, ◌≤◌, true, false, not, List, [], ◌∷◌, length, get_or, take, drop, set, Some, None, Option, refl, ap, ◌∙◌, arith}
 use Rattle.std.proofs.lemmas.List.{length-set, get_or-set_same, get_or-set_other, get_or-take, get_or-drop, take-set-le, drop_more}
-use Rattle.std.proofs.lemmas.Bool.{and_parts, or_parts, not-true, eqb-true, eqb-false, false≢true}
+use Rattle.std.proofs.lemmas.Bool.{and_parts, not-true, false≢true}
 use Rattle.meaning.specs.Codes.{member, different, position}
 use Rattle.meaning.proofs.Tables.{position_below}
 use Rattle.alphabet.specs.Columns.{column_at}
-use Rattle.program.specs.declared.blocks.Basic.{Basic as Slot}
 use Rattle.program.specs.declared.blocks.Arm.{Arm}
-use Rattle.program.specs.Store.{basic_of, unused, arms_of, all_among}
+use Rattle.program.specs.Store.{Slot, basic_of, unused, arms_of, all_among}
 use Rattle.program.specs.Arms.{codes_of, arms_in, codes_put, slot_put, slots_put}
 
 -- codes
 pub codes_length : (base : ℕ) (cs order : List ℕ) → length (codes_put base cs order) ≡ length order
 codes_length base [] order = refl
-codes_length base (c ∷ cs) order = codes_length (base + 1) cs (set order base c) ∙ length-set order base c
+codes_length base (c ∷ cs) order = grind (arith, codes_length (base + 1) cs (set order base c), length-set order base c)
 
 pub codes_before : (m base : ℕ) (cs order : List ℕ) → m ≤ base → take m (codes_put base cs order) ≡ take m order
 codes_before m base [] order h = refl
@@ -24,12 +23,8 @@ codes_row base [] order h = refl
 codes_row base (c ∷ cs) order h =
     let one = set order base c in
     let all = codes_put (base + 1) cs one in
-    let long : length all ≡ length order = codes_length (base + 1) cs one ∙ length-set order base c in
-    let here : get_or all base 0 ≡ c =
-    sym (get_or-take (base + 1) all base 0 (omega arith)) ∙ ap (λ l. get_or l base 0) (codes_before (base + 1) (base + 1) cs one (omega arith)) ∙ get_or-take (base + 1) one base 0 (omega arith)
-    ∙ get_or-set_same order base c 0 (omega arith) in
-    let rest : take (length cs) (drop (base + 1) all) ≡ cs = codes_row (base + 1) cs one (omega (arith, length-set order base c)) in
-    ap (take (suc (length cs))) (drop_more all base 0 (omega arith)) ∙ ap (λ x. x ∷ take (length cs) (drop (base + 1) all)) here ∙ ap (λ l. c ∷ l) rest
+    let here : get_or all base 0 ≡ c = grind (arith, get_or-take (base + 1) all base 0, codes_before (base + 1) (base + 1) cs one, get_or-take (base + 1) one base 0, get_or-set_same order base c 0) in
+    grind (arith, codes_length (base + 1) cs one, length-set order base c, codes_row (base + 1) cs one, drop_more all base 0)
 
 -- slots
 slot_length : (base : ℕ) (o : Option ℕ) (b : Slot) (slots : List Slot) → length (slot_put base o b slots) ≡ length slots
@@ -43,55 +38,38 @@ slot_before base (Some k) b slots i h = get_or-set_other slots (base + k) i b un
 -- the symbol at a column's position
 at_position : (c : ℕ) (cols : List ℕ) → member c cols ≡ true → get_or cols (position c cols) 0 ≡ c
 at_position c [] m = absurd (false≢true m)
-at_position c (x ∷ xs) m = at (eqb c x) refl m (at_position c xs)
-  where
-    at : (b : Bool) → eqb c x ≡ b → b || member c xs ≡ true → (member c xs ≡ true → get_or xs (position c xs) 0 ≡ c) → get_or (x ∷ xs) (cond b 0 (suc (position c xs))) 0 ≡ c
-    at true e m rest = sym (eqb-true c x e)
-    at false e m rest = rest m
+at_position c (x ∷ xs) m = grind (arith, at_position c xs)
 
 module _ (cols : List ℕ) (base : ℕ) where
-  pub slots_length : (arms : List Arm) (slots : List Slot) → length (slots_put cols base arms slots) ≡ length slots
+  pub slots_length : (arms : List (Arm ℕ)) (slots : List Slot) → length (slots_put cols base arms slots) ≡ length slots
   slots_length [] slots = refl
   slots_length (a ∷ arms) slots = slots_length arms _ ∙ slot_length base (column_at cols a.code) a.basic slots
 
-  pub slots_before : (arms : List Arm) (slots : List Slot) (i : ℕ) → i < base → get_or (slots_put cols base arms slots) i unused ≡ get_or slots i unused
+  pub slots_before : (arms : List (Arm ℕ)) (slots : List Slot) (i : ℕ) → i < base → get_or (slots_put cols base arms slots) i unused ≡ get_or slots i unused
   slots_before [] slots i h = refl
   slots_before (a ∷ arms) slots i h = slots_before arms _ i h ∙ slot_before base (column_at cols a.code) a.basic slots i h
 
   slot_after : (c : ℕ) (b : Slot) (slots : List Slot) (i : ℕ) → base + length cols ≤ i → get_or (slot_put base (column_at cols c) b slots) i unused ≡ get_or slots i unused
-  slot_after c b slots i h = at (member c cols) refl
-    where
-      at : (v : Bool) → member c cols ≡ v → get_or (slot_put base (cond v (Some (position c cols)) None) b slots) i unused ≡ get_or slots i unused
-      at true k = let below : position c cols < length cols = position_below c cols k in get_or-set_other slots (base + position c cols) i b unused (λ e. omega arith)
-      at false k = refl
+  slot_after c b slots i h = grind (arith, position_below c cols, get_or-set_other {A = Slot})
 
-  pub slots_after : (arms : List Arm) (slots : List Slot) (i : ℕ) → base + length cols ≤ i → get_or (slots_put cols base arms slots) i unused ≡ get_or slots i unused
+  pub slots_after : (arms : List (Arm ℕ)) (slots : List Slot) (i : ℕ) → base + length cols ≤ i → get_or (slots_put cols base arms slots) i unused ≡ get_or slots i unused
   slots_after [] slots i h = refl
   slots_after (a ∷ arms) slots i h = slots_after arms _ i h ∙ slot_after a.code a.basic slots i h
 
   -- another symbol's slot stays
   slot_other : (c d : ℕ) (b : Slot) (slots : List Slot) → member c cols ≡ true → (c ≡ d → ⊥) → get_or (slot_put base (column_at cols d) b slots) (base + position c cols) unused ≡ get_or slots (base + position c cols) unused
-  slot_other c d b slots m n = at (member d cols) refl
-    where
-      at : (v : Bool) → member d cols ≡ v → get_or (slot_put base (cond v (Some (position d cols)) None) b slots) (base + position c cols) unused ≡ get_or slots (base + position c cols) unused
-      at true k =
-          let apart : position c cols ≡ position d cols → ⊥ = (λ e. n (sym (at_position c cols m) ∙ ap (λ i. get_or cols i 0) e ∙ at_position d cols k)) in
-          get_or-set_other slots (base + position d cols) (base + position c cols) b unused (λ e. apart (omega arith))
-      at false k = refl
+  slot_other c d b slots m n = grind (arith, at_position c cols, at_position d cols, get_or-set_other {A = Slot})
 
-  slots_other : (c : ℕ) (arms : List Arm) (slots : List Slot) → member c cols ≡ true → member c (codes_of arms) ≡ false → get_or (slots_put cols base arms slots) (base + position c cols) unused ≡ get_or slots (base + position c cols) unused
+  slots_other : (c : ℕ) (arms : List (Arm ℕ)) (slots : List Slot) → member c cols ≡ true → member c (codes_of arms) ≡ false → get_or (slots_put cols base arms slots) (base + position c cols) unused ≡ get_or slots (base + position c cols) unused
   slots_other c [] slots m n = refl
-  slots_other c (a ∷ arms) slots m n =
-      let p = or_parts (eqb c a.code) (member c (codes_of arms)) n in
-      slots_other c arms _ m p.1 ∙ slot_other c a.code a.basic slots m (eqb-false c a.code p.0)
+  slots_other c (a ∷ arms) slots m n = grind (arith, slots_other c arms (slot_put base (column_at cols a.code) a.basic slots) m, slot_other c a.code a.basic slots m)
 
   -- the slot of a symbol that is written
   slot_here : (c : ℕ) (b : Slot) (slots : List Slot) → member c cols ≡ true → base + length cols ≤ length slots → get_or (slot_put base (column_at cols c) b slots) (base + position c cols) unused ≡ b
-  slot_here c b slots m l =
-      ap (λ v. get_or (slot_put base (cond v (Some (position c cols)) None) b slots) (base + position c cols) unused) m ∙ get_or-set_same slots (base + position c cols) b unused (let z = position_below c cols m in omega arith)
+  slot_here c b slots m l = grind (arith, position_below c cols m, get_or-set_same {A = Slot})
 
   -- the row has the arms
-  pub slots_row : (arms : List Arm) (slots : List Slot) → all_among (codes_of arms) cols ≡ true → different (codes_of arms) ≡ true → base + length cols ≤ length slots
+  pub slots_row : (arms : List (Arm ℕ)) (slots : List Slot) → all_among (codes_of arms) cols ≡ true → different (codes_of arms) ≡ true → base + length cols ≤ length slots
       → arms_of cols (codes_of arms) (drop base (slots_put cols base arms slots)) ≡ arms_in arms
   slots_row [] slots k d l = refl
   slots_row (a ∷ arms) slots k d l =

@@ -3,7 +3,7 @@ use Rattle.std.specs.Prelude.{◌≡◌, true, []}
 use Rattle.grammar.specs.Tree.{Program}
 use Rattle.meaning.specs.Blocks.{compiled}
 use Rattle.meaning.specs.Faults.{faults}
-use Rattle.program.specs.Built.{in_range}
+use Rattle.program.specs.InRange.{in_range}
 
 -- a program without violations is in range
 abbrev pub AcceptedFit : Type 0

@@ -1,9 +1,10 @@
 pub mod Store
 pub mod Arms
 pub mod Spare
+pub mod Place
 pub mod Ranges
+pub mod InRange
 pub mod Stored
 pub mod Built
 pub mod Laws
 pub mod Sound
-pub mod Rows

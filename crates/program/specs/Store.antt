@@ -1,26 +1,46 @@
 -- What the parts of a stored program mean, and their ranges.
-use Rattle.std.specs.Prelude.{ℕ, zero, suc, ◌*◌, Bool, true, ◌&&◌, List, [], ◌∷◌, map, length, take, drop, Some, None, Option, nat_lt, slice_index_or}
-use Rattle.std.specs.List.{range_with_len}
+use Rattle.std.specs.Prelude.{◌≡◌, ℕ, ◌*◌, ◌<◌, Bool, true, ◌&&◌, List, [], ◌∷◌, map, length, take, drop, Some, None, Option, nat_lt, slice_index_or}
+use Rattle.std.specs.List.{range_with_len, list_all}
 use Rattle.meaning.specs.Codes.{member, position}
 use Rattle.meaning.specs.Blocks.{Then, again, accepting, rejecting, jump, next, end, Basic, Kind, basic, switch}
 use Rattle.program.specs.declared.blocks.Then.{Then as StoredThen}
 use Rattle.program.specs.declared.blocks.Then.TheVariants.{Again, Accept, Reject, Goto, Next, End}
-use Rattle.program.specs.declared.blocks.Basic.{Basic as Slot}
+use Rattle.program.specs.declared.blocks.Basic.{Basic as StoredBasic}
+use Rattle.program.specs.declared.blocks.Arm.{Arm as StoredArm}
 use Rattle.program.specs.declared.blocks.Shape.{Shape}
 use Rattle.program.specs.declared.blocks.Shape.TheVariants.{Single, Switch}
 
--- what comes after a basic block
-abbrev pub then_of : StoredThen → Then ℕ
-then_of Again = again
-then_of Accept = accepting
-then_of Reject = rejecting
-then_of (Goto r) = jump r
-then_of (Next r) = next r
-then_of End = end
+-- what is written of blocks, where it is known what each goto leads to
+module _ {G H : Type 0} (target : G → H) where
+  -- what comes after a basic block
+  abbrev pub then_as : StoredThen G → Then H
+  then_as Again = again
+  then_as Accept = accepting
+  then_as Reject = rejecting
+  then_as (Goto g) = jump (target g)
+  then_as (Next r) = next r
+  then_as End = end
+
+  -- a basic block
+  abbrev pub basic_as : StoredBasic G → Basic H
+  basic_as s = record { write = s.write; move = s.movement; then = then_as s.then }
+
+  -- arms of a switch
+  abbrev pub arms_as : List (StoredArm G) → List (ℕ × Basic H)
+  arms_as [] = []
+  arms_as (a ∷ arms) = (a.code, basic_as a.basic) ∷ arms_as arms
+
+-- a slot: a basic block whose gotos are numbers
+abbrev pub Slot : Type 0
+Slot = StoredBasic ℕ
+
+-- what comes after such a one
+abbrev pub then_of : StoredThen ℕ → Then ℕ
+then_of = then_as (λ q. q)
 
 -- the basic block of a slot
 abbrev pub basic_of : Slot → Basic ℕ
-basic_of s = record { write = s.write; move = s.movement; then = then_of s.then }
+basic_of = basic_as (λ q. q)
 
 -- a slot that no block uses
 abbrev pub unused : Slot
@@ -44,24 +64,22 @@ row_symbols cols order q = take (length cols) (drop (q * length cols) order)
 abbrev pub kind_in : List ℕ → List Shape → List ℕ → List Slot → ℕ → Kind ℕ
 kind_in cols shapes order slots q = kind_of cols (slice_index_or shapes q Single) (row_symbols cols order q) (drop (q * length cols) slots)
 
--- the first n blocks
-abbrev pub kinds_of : List ℕ → List Shape → List ℕ → List Slot → ℕ → List (Kind ℕ)
-kinds_of cols shapes order slots n = map (kind_in cols shapes order slots) (range_with_len 0 n)
+-- the blocks
+abbrev pub kinds_of : List ℕ → List Shape → List ℕ → List Slot → List (Kind ℕ)
+kinds_of cols shapes order slots = map (kind_in cols shapes order slots) (range_with_len 0 (length shapes))
 
 -- each of these is among those
 abbrev pub all_among : List ℕ → List ℕ → Bool
-all_among [] those = true
-all_among (c ∷ cs) those = member c those && all_among cs those
+all_among these those = list_all (λ c. member c those) these
 
 -- a switch has each column among its symbols, and no other
 abbrev pub covers : List ℕ → Shape → List ℕ → Bool
 covers cols Single symbols = true
 covers cols Switch symbols = all_among cols symbols && all_among symbols cols
 
--- so do the first n blocks
-abbrev pub all_cover : List ℕ → List Shape → List ℕ → ℕ → Bool
-all_cover cols shapes order zero = true
-all_cover cols shapes order (suc n) = covers cols (slice_index_or shapes n Single) (row_symbols cols order n) && all_cover cols shapes order n
+-- so do all blocks
+abbrev pub AllCover : List ℕ → List Shape → List ℕ → Type 0
+AllCover cols shapes order = (q : ℕ) → q < length shapes → covers cols (slice_index_or shapes q Single) (row_symbols cols order q) ≡ true
 
 -- which slot of its row a block gives at a column
 abbrev pub place_in : Shape → ℕ → ℕ
@@ -88,5 +106,4 @@ basic_fits cols n b = write_fits cols b.write && then_fits n b.then
 
 -- so do the basic blocks of these slots
 abbrev pub all_fit : List ℕ → ℕ → List Slot → Bool
-all_fit cols n [] = true
-all_fit cols n (s ∷ slots) = basic_fits cols n (basic_of s) && all_fit cols n slots
+all_fit cols n slots = list_all (λ s. basic_fits cols n (basic_of s)) slots

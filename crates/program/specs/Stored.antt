@@ -1,21 +1,15 @@
 -- What a stored program means.
-use Rattle.std.specs.Prelude.{ℕ, List, [], ◌∷◌, Some, None, Ok, Err, codes, Option, Result}
+use Rattle.std.specs.Prelude.{[], ◌∷◌, Some, None, Ok, Err, codes, Option, Result}
 use Rattle.words.specs.Bytes.{Text}
 use Rattle.grammar.specs.Tree.{Program as Tree}
 use Rattle.meaning.specs.declared.faults.Fault.{Fault}
-use Rattle.meaning.specs.Codes.{columns}
 use Rattle.meaning.specs.Blocks.{rejecting, basic, Compiled, compiled as program_of}
-use Rattle.alphabet.specs.Alphabets.{letters_of}
 use Rattle.program.specs.declared.program.Program.{Program}
-use Rattle.program.specs.Store.{kinds_of}
-
--- the symbols that a program knows
-abbrev pub columns_of : Program → List ℕ
-columns_of p = columns (letters_of p.alphabet)
+use Rattle.program.specs.Place.{stored}
 
 -- the alphabet and the blocks
 abbrev pub compiled : Program → Compiled
-compiled p = record { letters = letters_of p.alphabet; blocks = kinds_of (columns_of p) p.shapes p.order p.slots p.count }
+compiled p = stored p.store
 
 -- one letter, and one block that rejects
 abbrev pub first_program : Compiled

@@ -1,8 +1,9 @@
-// The arms of a switch.
+// The arms of a switch. An alphabet and arms come as two arguments: `is_known` and `has_arm` ask about one of them alone, and each of the
+// others would take a struct of both apart for them.
 ghost use Rattle.std.specs.Prelude.{◌≡◌, ◌+◌, ◌≤◌, length};
 ghost use Rattle.meaning.specs.Codes.{member, columns};
 ghost use Rattle.alphabet.specs.Alphabets.{letters_of};
-ghost use Rattle.program.specs.Store.{all_among, basic_of, basic_fits, write_fits, then_fits, then_of};
+ghost use Rattle.program.specs.Store.{all_among, basic_of, basic_fits, all_fit, write_fits, then_fits, then_of};
 ghost use Rattle.program.specs.Arms.{codes_of, switch_fits, codes_put, slots_put};
 
 use crate::blocks::{Arm, Basic, Then};
@@ -12,94 +13,78 @@ use alphabet::letters::Alphabet;
 fn is_known(alphabet: &Alphabet, code: u8) -> bool
     ensures { result ≡ member code (columns (letters_of alphabet.now)) }
 {
-    match alphabet.column(code) {
-        Some(_) => true,
-        None => false,
-    }
+    alphabet.column(code).is_some()
 }
 
 // Is there an arm with this code?
-fn has_arm(arms: &[Arm], code: u8) -> bool
+fn has_arm(arms: &[Arm<u32>], code: u8) -> bool
     ensures { result ≡ member code (codes_of arms.now) }
 {
-    for arm in arms {
-        if code == arm.code {
-            return true;
-        }
-    }
-    false
+    arms.iter().any(|arm| code == arm.code)
 }
 
-// Is there an arm for each of these codes?
-fn have_arms(codes: &[u8], arms: &[Arm]) -> bool
-    ensures { result ≡ all_among codes.now (codes_of arms.now) }
+// Is there an arm for each column: each letter, and blank behind them?
+fn have_arms(alphabet: &Alphabet, arms: &[Arm<u32>]) -> bool
+    ensures { result ≡ all_among (columns (letters_of alphabet.now)) (codes_of arms.now) }
 {
-    for code in codes {
-        if !has_arm(arms, *code) {
-            return false;
-        }
-    }
-    true
+    let blank = [0];
+    alphabet
+        .letters()
+        .iter()
+        .chain(blank.iter())
+        .all(|code| has_arm(arms, *code))
 }
 
 // Has the code of each arm a column?
-fn are_known(alphabet: &Alphabet, arms: &[Arm]) -> bool
+fn are_known(alphabet: &Alphabet, arms: &[Arm<u32>]) -> bool
     ensures { result ≡ all_among (codes_of arms.now) (columns (letters_of alphabet.now)) }
 {
-    for arm in arms {
-        if !is_known(alphabet, arm.code) {
-            return false;
-        }
-    }
-    true
+    arms.iter().all(|arm| is_known(alphabet, arm.code))
 }
 
 // Is there exactly one arm for each column?
-pub(crate) fn are_whole(alphabet: &Alphabet, arms: &[Arm]) -> bool
+pub(crate) fn are_whole(alphabet: &Alphabet, arms: &[Arm<u32>]) -> bool
     ensures { result ≡ switch_fits (columns (letters_of alphabet.now)) (codes_of arms.now) }
 {
-    if arms.len() != alphabet.width() as usize {
-        return false;
-    }
-    if !have_arms(alphabet.letters(), arms) {
-        return false;
-    }
-    if !has_arm(arms, 0) {
-        return false;
-    }
-    are_known(alphabet, arms)
+    arms.len() == alphabet.width() as usize
+        && have_arms(alphabet, arms)
+        && are_known(alphabet, arms)
 }
 
 // Writes the codes of these arms, in order, from a place on.
-pub(crate) fn write_codes(order: &mut [u8], base: usize, arms: &[Arm])
+pub(crate) fn write_codes(order: &mut [u8], base: usize, arms: &[Arm<u32>])
     requires { base + length arms.now ≤ length order.old }
     ensures { order.new ≡ codes_put base (codes_of arms.now) order.old }
 {
-    for i in 0..arms.len() {
-        order[base + i] = arms[i].code;
+    // By place, since of what `iter_mut` lends through a `zip` no element is known afterwards.
+    for (i, arm) in arms.iter().enumerate() {
+        order[base + i] = arm.code;
     }
 }
 
 // Writes the basic block of each arm into the slot of its column, in the row from a place on.
-pub(crate) fn write_slots(slots: &mut [Basic], base: usize, alphabet: &Alphabet, arms: &[Arm])
+pub(crate) fn write_slots(
+    slots: &mut [Basic<u32>],
+    base: usize,
+    alphabet: &Alphabet,
+    arms: &[Arm<u32>],
+)
     requires { base + length (columns (letters_of alphabet.now)) ≤ length slots.old }
     ensures { slots.new ≡ slots_put (columns (letters_of alphabet.now)) base arms.now slots.old }
 {
-    for i in 0..arms.len() {
-        match alphabet.column(arms[i].code) {
-            Some(column) => slots[base + column as usize] = arms[i].basic,
-            None => {}
+    for arm in arms {
+        if let Some(column) = alphabet.column(arm.code) {
+            slots[base + column as usize] = arm.basic;
         }
     }
 }
 
 // Is what comes after one of so many numbers, or none?
-fn then_fits(count: u32, then: Then) -> bool
+fn then_fits(count: u32, then: Then<u32>) -> bool
     ensures { result ≡ then_fits count (then_of «then») }
 {
     match then {
-        Then::Goto(number) => number < count,
-        Then::Next(number) => number < count,
+        Then::Goto(number) | Then::Next(number) => number < count,
         _ => true,
     }
 }
@@ -108,18 +93,19 @@ fn then_fits(count: u32, then: Then) -> bool
 fn write_fits(alphabet: &Alphabet, write: Option<u8>) -> bool
     ensures { result ≡ write_fits (columns (letters_of alphabet.now)) write }
 {
-    match write {
-        Some(code) => is_known(alphabet, code),
-        None => true,
-    }
+    write.is_none_or(|code| is_known(alphabet, code))
 }
 
 // Does a basic block write a symbol that has a column, and lead to one of so many numbers?
-pub(crate) fn basic_fits(alphabet: &Alphabet, count: u32, basic: Basic) -> bool
+fn basic_fits(alphabet: &Alphabet, count: u32, basic: Basic<u32>) -> bool
     ensures { result ≡ basic_fits (columns (letters_of alphabet.now)) count (basic_of basic) }
 {
-    if !write_fits(alphabet, basic.write) {
-        return false;
-    }
-    then_fits(count, basic.then)
+    write_fits(alphabet, basic.write) && then_fits(count, basic.then)
+}
+
+// Do all of these basic blocks?
+pub(crate) fn all_fit(alphabet: &Alphabet, count: u32, slots: &[Basic<u32>]) -> bool
+    ensures { result ≡ all_fit (columns (letters_of alphabet.now)) count slots.now }
+{
+    slots.iter().all(|slot| basic_fits(alphabet, count, *slot))
 }

@@ -1,26 +1,25 @@
 use tape::kinds::Direction;
 
-// What comes after a basic block.
+// What comes after a basic block; `G` says where a goto leads: by a number, or still by the name as it is written.
 #[derive(Clone, Copy, Drop)]
-pub enum Then {
+pub enum Then<G> {
     // the same switch, in a while case
     Again,
     Accept,
     Reject,
-    // goto, by the number that the name stands for
-    Goto(u32),
+    Goto(G),
     // the next block of the same body, by its number
     Next(u32),
     // the body has no next block
     End,
 }
 
-// A basic block, 12 bytes. A command that the source does not write is missing here too.
+// A basic block, 12 bytes where gotos are numbers. A command that the source does not write is missing here too.
 #[derive(Clone, Copy, Drop)]
-pub struct Basic {
+pub struct Basic<G> {
     pub write: Option<u8>,
     pub movement: Option<Direction>,
-    pub then: Then,
+    pub then: Then<G>,
 }
 
 // What a numbered block is: a basic block, or a switch with a basic block for each symbol.
@@ -32,13 +31,13 @@ pub enum Shape {
 
 // An arm of a switch: a symbol code and its basic block.
 #[derive(Clone, Copy, Drop)]
-pub struct Arm {
+pub struct Arm<G> {
     pub code: u8,
-    pub basic: Basic,
+    pub basic: Basic<G>,
 }
 
 // What stands in a slot that no block uses.
-pub const UNUSED: Basic = Basic {
+pub const UNUSED: Basic<u32> = Basic {
     write: None,
     movement: None,
     then: Then::End,

@@ -6,4 +6,6 @@ mod arms;
 pub mod blocks;
 pub mod builder;
 pub mod laws;
+pub mod limits;
 pub mod program;
+mod store;

@@ -1,125 +1,81 @@
-ghost use Rattle.std.specs.Prelude.{◌≡◌, ◌+◌, ◌≤◌, not, ◌&&◌, [], ◌∷◌, length, take, if◌then◌else◌, Some, None, nat_le};
+ghost use Rattle.std.specs.Prelude.{◌≡◌, not, ◌&&◌, [], ◌∷◌, ◌<◌, length, IfSome, if◌then◌else◌, Some, None, nat_le, ◌==◌};
+ghost use Rattle.bounded.specs.Inline.{items_of};
 ghost use Rattle.tape.specs.Meaning.{all_codes};
 ghost use Rattle.meaning.specs.Codes.{member, different, columns};
-ghost use Rattle.alphabet.specs.Columns.{letters_fit, column_at, column_for, column_from, column_map};
+ghost use Rattle.alphabet.specs.Columns.{letters_fit, column_at, column_map};
 ghost use Rattle.alphabet.specs.Alphabets.{letters_of, letters_if};
 
 use crate::letters::Alphabet;
+use bounded::inline::InlineList;
+use std::array;
 use tape::symbol::HIGHEST_CODE;
 
 // How many letters there are at most.
 pub const MAX_LETTERS: usize = 36;
 
-// The mark for a code that has no column.
-const NO_COLUMN: u8 = 255;
-
-// Is this code among these?
-fn has(codes: &[u8], code: u8) -> bool
-    ensures { result ≡ member code codes.now }
+// Is this a letter's code?
+fn is_letter(code: u8) -> bool
+    ensures { result ≡ (not (code == 0) && nat_le code 36) }
 {
-    for other in codes {
-        if code == *other {
-            return true;
-        }
-    }
-    false
+    code != 0 && code <= HIGHEST_CODE
 }
 
 // Is this a letter's code, and not among these?
+#[tactic(auto, using(crate::proofs::Places::apart_by))]
 fn stands_apart(code: u8, rest: &[u8]) -> bool
     ensures { result ≡ (nat_le code 36 && not (member code (columns rest.now))) }
 {
-    if code > HIGHEST_CODE {
-        return false;
-    }
-    if code == 0 {
-        return false;
-    }
-    !has(rest, code)
+    is_letter(code) && !rest.contains(&code)
 }
 
 // Is each of these a letter's code, and stands none twice?
 fn are_letters(codes: &[u8]) -> bool
     ensures { result ≡ (all_codes codes.now && different (columns codes.now)) }
 {
-    for i in 0..codes.len() {
-        if !stands_apart(codes[i], &codes[i + 1..]) {
+    let mut rest = codes;
+    while let Some((code, behind)) = rest.split_first() {
+        if !stands_apart(*code, behind) {
             return false;
         }
+        rest = behind;
     }
     true
 }
 
-// The column of a code among those of an alphabet with these letters.
-fn column_in(letters: &[u8], code: u8) -> u8
-    requires { length letters.now ≤ 36 }
-    ensures { result ≡ column_for (columns letters.now) code }
+// The column of a code: where it stands among the letters and the blank behind them.
+fn column_in(letters: &InlineList<u8, MAX_LETTERS>, code: u8) -> Option<u8>
+    ensures { result ≡ column_at (columns (items_of letters.now)) code }
 {
-    for i in 0..letters.len() {
-        if code == letters[i] {
-            return i as u8;
-        }
-    }
-    if code == 0 {
-        letters.len() as u8
-    } else {
-        NO_COLUMN
-    }
+    let blank = [0];
+    letters
+        .as_slice()
+        .iter()
+        .chain(blank.iter())
+        .position(|column| code == *column)
+        .map(|place| place as u8)
 }
 
 // The column of each code.
-fn columns_in(letters: &[u8]) -> [u8; 256]
-    requires { length letters.now ≤ 36 }
-    ensures { result ≡ column_map (columns letters.now) }
+fn columns_in(letters: &InlineList<u8, MAX_LETTERS>) -> [Option<u8>; 256]
+    ensures { result ≡ column_map (columns (items_of letters.now)) }
 {
-    let mut columns = [NO_COLUMN; 256];
-    for i in 0..256usize {
-        columns[i] = column_in(letters, i as u8);
-    }
-    columns
-}
-
-// The column that the column map has for a code, or nothing where it has the mark for none.
-fn column_from(entry: u8) -> Option<u8>
-    ensures { result ≡ column_from entry }
-{
-    if entry == NO_COLUMN {
-        None
-    } else {
-        Some(entry)
-    }
-}
-
-// These letters at the front of an array.
-fn stored(letters: &[u8]) -> [u8; 36]
-    requires { length letters.now ≤ 36 }
-    ensures { take (length letters.now) result ≡ letters.now }
-{
-    let mut array = [0; 36];
-    for i in 0..letters.len() {
-        array[i] = letters[i];
-    }
-    array
+    array::from_fn(|code| column_in(letters, code as u8))
 }
 
 impl Alphabet {
     // The alphabet with these letters, or nothing where one is no letter or stands twice, or there is none.
+    #[tactic(auto, using(crate::proofs::Places::apart_few))]
     pub fn new(letters: &[u8]) -> Option<Alphabet>
         ensures { letters_if result ≡ (if letters_fit letters.now then Some letters.now else None) }
     {
-        if letters.len() == 0 {
+        if letters.is_empty() || !are_letters(letters) {
             return None;
         }
-        if letters.len() > MAX_LETTERS {
-            return None;
-        }
-        if !are_letters(letters) {
-            return None;
-        }
+        let mut stored = InlineList::new(0);
+        stored.extend_from_slice(letters).ok()?;
         Some(Alphabet {
-            count: letters.len() as u8,
-            letters: stored(letters),
-            column_of: columns_in(letters),
+            letters: stored,
+            column_of: columns_in(&stored),
         })
     }
 
@@ -127,32 +83,29 @@ impl Alphabet {
     pub fn single() -> Alphabet
         ensures { letters_of result ≡ 1 ∷ [] }
     {
-        let letters = [1; 1];
-        Alphabet {
-            count: 1,
-            letters: stored(&letters),
-            column_of: columns_in(&letters),
-        }
+        Alphabet::new(&[1]).unwrap()
     }
 
     // How many columns there are: one for each letter, and one for blank.
     pub fn width(&self) -> u32
         ensures { result ≡ length (columns (letters_of self.now)) }
     {
-        self.count as u32 + 1
+        self.letters.len() as u32 + 1
     }
 
     // The letters, in order of writing.
     pub fn letters(&self) -> &[u8]
         ensures { result.now ≡ letters_of self.now }
     {
-        &self.letters[0..self.count as usize]
+        self.letters.as_slice()
     }
 
     // The column of a symbol, or nothing where the symbol is not known.
+    #[tactic(auto, using(crate::proofs::Places::column_told))]
     pub fn column(&self, code: u8) -> Option<u8>
-        ensures { result ≡ column_at (columns (letters_of self.now)) code }
+        ensures column { result ≡ column_at (columns (letters_of self.now)) code }
+        ensures within { IfSome result (λ k. k < length (columns (letters_of self.now))) }
     {
-        column_from(self.column_of[code as usize])
+        self.column_of[code as usize]
     }
 }

@@ -1,7 +1,9 @@
-use Rattle.std.proofs.Common.{◌≡◌, ◌&&◌, drop}
-use Rattle.tape.specs.Meaning.{all_codes}
-use Rattle.meaning.specs.Codes.{different, columns}
+use Rattle.std.proofs.Common.{◌≡◌, length}
+use Rattle.alphabet.proofs.Places.{apart}
 use Rattle.alphabet.proofs.letters.operations.are_letters.Given as goal
 
-abbrev pub invariant-loop-i : goal.invariant-loop-i
-invariant-loop-i l = (all_codes l.codes && different (columns l.codes)) ≡ (all_codes (drop l.i l.codes) && different (columns (drop l.i l.codes)))
+abbrev pub invariant-loop-code : goal.invariant-loop-code
+invariant-loop-code l = apart l.codes ≡ apart l.rest
+
+abbrev pub decreases-loop-code : goal.decreases-loop-code
+decreases-loop-code l = length l.rest

@@ -1,9 +1,9 @@
-use Rattle.std.proofs.Common.{arith}
-use Rattle.std.proofs.lemmas.List.FromFn.{fill_by_all}
+use Rattle.std.proofs.Common.{None, rules, tests}
 use Rattle.meaning.specs.Codes.{columns}
-use Rattle.alphabet.specs.Columns.{column_for}
+use Rattle.bounded.specs.Inline.{items_of}
+use Rattle.alphabet.specs.Columns.{column_at}
+use Rattle.alphabet.proofs.Made.{made_by}
 use Rattle.alphabet.proofs.letters.operations.columns_in.Goals as goal
 
 pub returns : goal.returns
-returns c =
-    fill_by_all (column_for (columns c.args.letters.now)) c.loop-i.columns 256 0 c.loop-i.invariant.0 (λ k h. c.loop-i.invariant.1 k (omega arith))
+returns c = made_by _ _ (column_at (columns (items_of c.args.letters.now))) (λ i y q k. search (rules, tests)) c.from_fn.result 256 None c.from_fn.ensures.items

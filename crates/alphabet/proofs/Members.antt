@@ -1,0 +1,19 @@
+-- What the library's searches find among codes.
+use Rattle.std.proofs.Common.{◌≡◌, ℕ, cond, eqb, List, [], ◌∷◌, Some, None, refl, ap, ◌∙◌, ◌+◌, arith}
+use Rattle.std.specs.List.{list_any, position as first_place, position_from}
+use Rattle.std.proofs.lemmas.Iterator.Adapters.{position_from-zero}
+use Rattle.meaning.specs.Codes.{member, position}
+use Rattle.alphabet.specs.Columns.{column_at}
+
+-- `contains` tells whether a code is a member
+pub contains_member : (c : ℕ) (cs : List ℕ) → list_any (λ x. eqb x c) cs ≡ member c cs
+contains_member c [] = refl
+contains_member c (x ∷ cs) = grind (arith, contains_member c cs)
+
+-- `position` tells a code's column
+column_from : (c i : ℕ) (cols : List ℕ) → position_from (λ x. eqb c x) i cols ≡ cond (member c cols) (Some (i + position c cols)) None
+column_from c i [] = refl
+column_from c i (x ∷ cols) = grind (arith, column_from c (i + 1) cols)
+
+pub position_column : (c : ℕ) (cols : List ℕ) → first_place (λ x. eqb c x) cols ≡ column_at cols c
+position_column c cols = position_from-zero (λ x. eqb c x) cols ∙ column_from c 0 cols ∙ ap (λ k. cond (member c cols) (Some k) None) (omega arith)
