@@ -1,5 +1,5 @@
 -- What is answered and stored by the outcome of a source is so in the words of the subject.
-use Rattle.std.proofs.Common.{◌≡◌, ℕ, Ok, Err, Result, sym, refl, ap, ◌∙◌, arith}
+use Rattle.std.proofs.Common.{◌≡◌, Ok, Err, Result, sym, refl, ap, ◌∙◌}
 use Rattle.words.specs.Bytes.{Text}
 use Rattle.grammar.specs.Tree.{Program}
 use Rattle.meaning.specs.declared.faults.Fault.{Fault}
@@ -13,18 +13,12 @@ module _ (source : Text) where
   -- done says that some program is accepted
   done : (o : Result Program Fault) → outcome source ≡ o → compile_answer o ≡ Ok tt → (t : Program) × Accepted source t
   done (Ok t) e a = (t, (exact source (Ok t)).0 e)
-  done (Err f) e a = let z : ◌≡◌ {A = ℕ} 0 1 = cc in absurd (omega arith)
+  done (Err f) e a = absurd cc
 
   -- a fault says that the source has it
   faulty : (o : Result Program Fault) (f : Fault) → outcome source ≡ o → compile_answer o ≡ Err f → Refused source f
-  faulty (Ok t) f e a = let z : ◌≡◌ {A = ℕ} 0 1 = cc in absurd (omega arith)
-  faulty (Err g) f e a = (exact source (Err f)).0 (e ∙ a')
-    where
-      same : g ≡ f
-      same = cc
-
-      a' : ◌≡◌ {A = Result Program Fault} (Err g) (Err f)
-      a' = ap (λ h. Err h) same
+  faulty (Ok t) f e a = absurd cc
+  faulty (Err g) f e a = (exact source (Err f)).0 cc
 
   accepted : (t : Program) → Accepted source t → outcome source ≡ Ok t
   accepted t a = (exact source (Ok t)).1 a

@@ -1,4 +1,2 @@
-pub mod Stretches
 pub mod Running
-pub mod Beginning
 pub mod Compiling

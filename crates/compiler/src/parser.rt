@@ -1,21 +1,33 @@
-// The parser: a recursive descent through the words of a source.
+// The parser: a recursive descent through the words of a source, which notes what it reads.
+ghost use Rattle.std.specs.Prelude.{◌≤◌};
+
+use notes::notes::Notes;
 use words::Reader;
 
+pub mod cases;
+pub mod commands;
 pub mod descent;
 pub mod lexemes;
 pub mod modules;
 
 // Reads a source from word to word.
 #[derive(Drop)]
-pub struct Parser<'a> {
+pub struct Lexer<'a> {
     reader: Reader<'a>,
 }
 
-// A symbol by its code, with its place.
+// Reads a source, and notes what it reads.
+#[derive(Drop)]
+pub struct Parser<'a, 'n, 'm> {
+    lexer: Lexer<'a>,
+    notes: Notes<'n, 'm, 'a>,
+}
+
+// What a command does: it writes a symbol, or moves the head. Its number is its rank.
 #[derive(Clone, Copy, Drop)]
-pub struct Symbol {
-    code: u8,
-    place: usize,
+pub enum Command {
+    Changeto = 1,
+    Move = 2,
 }
 
 // How a case begins.
@@ -23,4 +35,19 @@ pub struct Symbol {
 pub enum Head {
     If,
     While,
+}
+
+// How many cases may still stand in one another.
+#[derive(Clone, Copy, Drop)]
+pub struct Room {
+    cases: u8,
+    ghost most: { cases ≤ 16 },
+}
+
+// A case by its first word: how it begins, where, and how many cases may stand in one another there.
+#[derive(Clone, Copy, Drop)]
+pub struct Case {
+    head: Head,
+    place: usize,
+    room: Room,
 }

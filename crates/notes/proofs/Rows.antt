@@ -1,64 +1,37 @@
 -- The blocks that rows stand for.
-use Rattle.std.proofs.Common.{◌≡◌, ℕ, zero, suc, ◌+◌, ◌<◌, ◌≤◌, List, [], ◌∷◌, ◌++◌, length, get_or, take, set, sym, refl, ap, ◌∙◌, arith}
-use Rattle.std.proofs.lemmas.List.{append_assoc, append-nil, length-append, length-take, length-take-le, take_all, take-append-le, take_more_set}
+use Rattle.std.proofs.Common.{◌≡◌, ℕ, zero, suc, ◌<◌, ◌≤◌, List, [], ◌∷◌, ◌++◌, length, take, set, Some, None, sym, refl, ap, ◌∙◌, arith}
+use Rattle.std.proofs.lemmas.List.{append-nil, append_assoc, length-append, map_push, take_all, take-append-le}
+use Rattle.std.proofs.lemmas.Bool.Decides.{nat_tests}
+use Rattle.std.proofs.lemmas.Option.{slice_get_read, slice_get_past}
+use Rattle.std.specs.Borrow.{Bor}
+use Rattle.std.specs.List.{slice_get}
+use Rattle.std.specs.Slice.{IsItemAt}
+use Rattle.bounded.specs.Inline.{extended}
 use Rattle.words.specs.Bytes.{Text}
-use Rattle.meaning.specs.Blocks.{Basic, Kind, basic, switch, lead}
-use Rattle.events.specs.Notes.{altered, with_arms, most_arms}
-use Rattle.notes.specs.declared.kinds.Arm.{Arm}
-use Rattle.notes.specs.declared.kinds.Shape.{Shape}
-use Rattle.notes.specs.declared.kinds.Shape.TheVariants.{Single, Switch}
-use Rattle.notes.specs.declared.notes.Row.{Row}
-use Rattle.notes.specs.Kinds.{basic_of, arms_of}
-use Rattle.notes.specs.Noted.{kind_by, kind_of, kinds_of}
+use Rattle.meaning.specs.Blocks.{Basic as Meant, Kind, lead}
+use Rattle.draft.specs.Building.{Owner, numbered, arm_of}
+use Rattle.events.specs.Notes.{altered, filled}
+use Rattle.program.specs.declared.blocks.Basic.{Basic}
+use Rattle.program.specs.declared.blocks.Arm.{Arm}
+use Rattle.program.specs.Store.{basic_as, arms_as}
+use Rattle.notes.specs.Kinds.{number_of}
+use Rattle.notes.specs.Noted.{Block, kind_as, kinds_as, kind_filled}
 
--- one row more
-pub kinds_more : (s : Text) (rs : List Row) (r : Row) → kinds_of s (rs ++ r ∷ []) ≡ kinds_of s rs ++ kind_of s r ∷ []
-kinds_more s [] r = refl
-kinds_more s (q ∷ rs) r = ap (λ ks. kind_of s q ∷ ks) (kinds_more s rs r)
+-- what a look at a place of a slice gives
+pub item_at : {A : Type 0} (xs : List A) (i : ℕ) (x : Bor A) → IsItemAt xs i (Some x) → slice_get xs i ≡ Some x.now
+item_at xs i x h = slice_get_read xs (length xs) i x.now refl h.3.0 h.1
 
-pub kinds_push : (s : Text) (rs : List Row) (n : ℕ) (r : Row) → n < length rs → kinds_of s (take (n + 1) (set rs n r)) ≡ kinds_of s (take n rs) ++ kind_of s r ∷ []
-kinds_push s rs n r lt = ap (kinds_of s) (take_more_set rs n r lt) ∙ kinds_more s (take n rs) r
+pub no_item : {A : Type 0} (xs : List A) (i : ℕ) → IsItemAt xs i None → slice_get xs i ≡ None
+no_item xs i h = slice_get_past xs i h.3
 
--- one of the first n rows changed
-pub kinds_set : (s : Text) (f : Kind Text → Kind Text) (rs : List Row) (n q : ℕ) (r d : Row) → q < n → n ≤ length rs → kind_of s r ≡ f (kind_of s (get_or rs q d)) → kinds_of s (take n (set rs q r)) ≡ altered (kinds_of s (take n rs)) q f
-kinds_set s f [] n q r d lt le e = absurd (omega arith)
-kinds_set s f (x ∷ rs) zero q r d lt le e = absurd (omega arith)
-kinds_set s f (x ∷ rs) (suc n) zero r d lt le e = ap (λ k. k ∷ kinds_of s (take n rs)) e
-kinds_set s f (x ∷ rs) (suc n) (suc q) r d lt le e = ap (λ ks. kind_of s x ∷ ks) (kinds_set s f rs n q r d (omega arith) (omega arith) e)
+-- the block that an owner stands in is the one that is filled
+pub filled_altered : (o : Owner) (b : Meant Text) (ks : List (Kind Text)) → altered ks (number_of o) (kind_filled o b) ≡ filled o b ks
+filled_altered (numbered q) b ks = refl
+filled_altered (arm_of q cs) b ks = refl
 
--- none of the first n
-pub kinds_past : (s : Text) (f : Kind Text → Kind Text) (rs : List Row) (n q : ℕ) → n ≤ q → kinds_of s (take n rs) ≡ altered (kinds_of s (take n rs)) q f
-kinds_past s f [] zero q le = refl
-kinds_past s f [] (suc n) q le = refl
-kinds_past s f (x ∷ rs) zero q le = refl
-kinds_past s f (x ∷ rs) (suc n) zero le = absurd (omega arith)
-kinds_past s f (x ∷ rs) (suc n) (suc q) le = ap (λ ks. kind_of s x ∷ ks) (kinds_past s f rs n q (omega arith))
-
--- one arm more
-arms_more : (s : Text) (xs : List Arm) (a : Arm) → arms_of s (xs ++ a ∷ []) ≡ arms_of s xs ++ ((a.code, basic_of s a.basic) ∷ [])
-arms_more s [] a = refl
-arms_more s (x ∷ xs) a = ap (λ l. (x.code, basic_of s x.basic) ∷ l) (arms_more s xs a)
-
-length_arms : (s : Text) (xs : List Arm) → length (arms_of s xs) ≡ length xs
-length_arms s [] = refl
-length_arms s (x ∷ xs) = ap suc (length_arms s xs)
-
-pub arms_push : (s : Text) (xs : List Arm) (n : ℕ) (a : Arm) → length xs ≡ 37 → n < 37 → arms_of s (take (n + 1) (set xs n a)) ≡ take most_arms (arms_of s (take n xs) ++ lead (a.code ∷ []) (basic_of s a.basic))
-arms_push s xs n a l lt =
-    let more = arms_more s (take n xs) a in
-    let h = length-take-le n xs (omega arith) in
-    let k = length_arms s (take n xs) in
-    let j = length-append (arms_of s (take n xs)) ((a.code, basic_of s a.basic) ∷ []) in
-    ap (arms_of s) (take_more_set xs n a (omega arith)) ∙ more ∙ sym (take_all 37 (arms_of s (take n xs) ++ ((a.code, basic_of s a.basic) ∷ [])) (omega arith))
-
-pub arms_full : (s : Text) (xs : List Arm) (n c : ℕ) (b : Basic Text) → length xs ≡ 37 → n ≤ 37 → 37 ≤ n → arms_of s (take n xs) ≡ take most_arms (arms_of s (take n xs) ++ lead (c ∷ []) b)
-arms_full s xs n c b l le ge =
-    let h = length-take-le n xs (omega arith) in
-    let k = length_arms s (take n xs) in
-    sym (take-append-le 37 (arms_of s (take n xs)) (lead (c ∷ []) b) (omega arith) ∙ take_all 37 (arms_of s (take n xs)) (omega arith))
-
--- arms for symbols, then for one more
-lead_more : (cs : List ℕ) (c : ℕ) (b : Basic Text) → lead (cs ++ c ∷ []) b ≡ lead cs b ++ lead (c ∷ []) b
+-- blocks, where it is known what each goto leads to
+-- symbols, then one more
+lead_more : (cs : List ℕ) (c : ℕ) (b : Meant Text) → lead (cs ++ c ∷ []) b ≡ lead cs b ++ lead (c ∷ []) b
 lead_more [] c b = refl
 lead_more (d ∷ cs) c b = ap (λ l. (d, b) ∷ l) (lead_more cs c b)
 
@@ -67,20 +40,45 @@ take_twice zero xs ys = refl
 take_twice (suc n) [] ys = refl
 take_twice (suc n) (x ∷ xs) ys = ap (λ l. x ∷ l) (take_twice n xs ys)
 
-pub with_more : (cs : List ℕ) (c : ℕ) (b : Basic Text) (k : Kind Text) → with_arms (c ∷ []) b (with_arms cs b k) ≡ with_arms (cs ++ c ∷ []) b k
-with_more cs c b (basic x) = refl
-with_more cs c b (switch arms) =
-    ap switch (take_twice 37 (arms ++ lead cs b) (lead (c ∷ []) b) ∙ ap (take 37) (append_assoc arms (lead cs b) (lead (c ∷ []) b) ∙ ap (λ l. arms ++ l) (sym (lead_more cs c b))))
+module _ {G : Type 0} (target : G → Text) where
+  -- one block more
+  pub kinds_push : (n : ℕ) (bs : List (Block G)) (b : Block G) → length bs < n → kinds_as target (extended n bs (b ∷ [])) ≡ kinds_as target bs ++ kind_as target b ∷ []
+  kinds_push n bs b lt = grind (arith, nat_tests, map_push (kind_as target) bs b)
 
--- what a row of at most 37 arms stands for stays where no symbol is added
-pub with_none : (b : Basic Text) (s : Text) (r : Row) → kind_of s r ≡ with_arms [] b (kind_of s r)
-with_none b s r = at r.shape
-  where
-    at : (h : Shape) → kind_by s h r.count r.arms ≡ with_arms [] b (kind_by s h r.count r.arms)
-    at Single = refl
-    at Switch =
-        let arms = arms_of s (take r.count r.arms) in
-        let l = length-take r.count r.arms in
-        let k = length_arms s (take r.count r.arms) in
-        let few = r.room in
-        ap switch (sym (ap (take 37) (append-nil arms) ∙ take_all 37 arms (omega arith)))
+  -- one of the blocks changed, or none
+  pub kinds_set : (f : Kind Text → Kind Text) (bs : List (Block G)) (q : ℕ) (old new : Block G) → slice_get bs q ≡ Some old → kind_as target new ≡ f (kind_as target old) → kinds_as target (set bs q new) ≡ altered (kinds_as target bs) q f
+  kinds_set f [] q old new here e = cc
+  kinds_set f (b ∷ bs) zero old new here e = let same : b ≡ old = cc in ap (λ k. k ∷ kinds_as target bs) (e ∙ ap (λ (x : Block G). f (kind_as target x)) (sym same))
+  kinds_set f (b ∷ bs) (suc q) old new here e = ap (λ ks. kind_as target b ∷ ks) (kinds_set f bs q old new here e)
+
+  pub kinds_past : (f : Kind Text → Kind Text) (bs : List (Block G)) (q : ℕ) → slice_get bs q ≡ None → kinds_as target bs ≡ altered (kinds_as target bs) q f
+  kinds_past f [] q past = refl
+  kinds_past f (b ∷ bs) zero past = cc
+  kinds_past f (b ∷ bs) (suc q) past = ap (λ ks. kind_as target b ∷ ks) (kinds_past f bs q past)
+
+  -- one arm more
+  arms_more : (xs : List (Arm G)) (a : Arm G) → arms_as target (xs ++ a ∷ []) ≡ arms_as target xs ++ lead (a.code ∷ []) (basic_as target a.basic)
+  arms_more [] a = refl
+  arms_more (x ∷ xs) a = ap (λ l. (x.code, basic_as target x.basic) ∷ l) (arms_more xs a)
+
+  length_arms : (xs : List (Arm G)) → length (arms_as target xs) ≡ length xs
+  length_arms [] = refl
+  length_arms (x ∷ xs) = ap suc (length_arms xs)
+
+  arms_push : (n : ℕ) (xs : List (Arm G)) (a : Arm G) → length xs ≤ n → arms_as target (extended n xs (a ∷ [])) ≡ take n (arms_as target xs ++ lead (a.code ∷ []) (basic_as target a.basic))
+  arms_push n xs a le =
+      let arms = arms_as target xs in
+      let last = lead (a.code ∷ []) (basic_as target a.basic) in
+      grind (arith, nat_tests, length_arms xs, arms_more xs a, length-append arms last, take_all n (arms ++ last), take_all n arms, take-append-le n arms last)
+
+  -- arms for symbols: for none, and for one more
+  pub arms_start : (n : ℕ) (xs : List (Arm G)) (b : Meant Text) → length xs ≤ n → arms_as target xs ≡ take n (arms_as target xs ++ lead [] b)
+  arms_start n xs b le = let l = length_arms xs in sym (ap (take n) (append-nil (arms_as target xs)) ∙ take_all n (arms_as target xs) (omega arith))
+
+  pub arms_step : (n : ℕ) (xs ys : List (Arm G)) (cs : List ℕ) (c : ℕ) (b : Basic G) → length ys ≤ n → arms_as target ys ≡ take n (arms_as target xs ++ lead cs (basic_as target b))
+      → arms_as target (extended n ys (record { code = c; basic = b } ∷ [])) ≡ take n (arms_as target xs ++ lead (cs ++ c ∷ []) (basic_as target b))
+  arms_step n xs ys cs c b le e =
+      let arms = arms_as target xs in
+      let first = lead cs (basic_as target b) in
+      let last = lead (c ∷ []) (basic_as target b) in
+      arms_push n ys (record { code = c; basic = b }) le ∙ ap (λ zs. take n (zs ++ last)) e ∙ take_twice n (arms ++ first) last ∙ ap (take n) (append_assoc arms first last ∙ ap (λ l. arms ++ l) (sym (lead_more cs c (basic_as target b))))

@@ -1,66 +1,66 @@
--- What notes mean, for a source.
-use Rattle.std.specs.Prelude.{ℕ, not, List, [], ◌∷◌, take, None, Option, slice_index_or}
+-- What notes mean.
+use Rattle.std.specs.Prelude.{ℕ, not, List, ◌∷◌, map, Option}
 use Rattle.bounded.specs.Held.{held}
+use Rattle.bounded.specs.declared.inline.InlineList.{InlineList}
+use Rattle.bounded.specs.Inline.{items_of}
+use Rattle.words.specs.declared.word.Word.{Word}
 use Rattle.words.specs.Bytes.{Text}
 use Rattle.words.specs.Vocabulary.{ACCEPT, REJECT}
 use Rattle.meaning.specs.declared.faults.Cause.TheVariants.{ModuleName, Goto}
 use Rattle.meaning.specs.Faults.{Violation, named}
 use Rattle.draft.specs.Draft.{Entry, Pending, names_of, met}
-use Rattle.meaning.specs.Blocks.{Kind, basic, switch}
-use Rattle.events.specs.Notes.{Notes as Meaning, flagged, kept, most_letters}
-use Rattle.notes.specs.declared.kinds.Then.TheVariants.{End}
-use Rattle.notes.specs.declared.kinds.Arm.{Arm}
-use Rattle.notes.specs.declared.kinds.Shape.{Shape}
-use Rattle.notes.specs.declared.kinds.Shape.TheVariants.{Single, Switch}
+use Rattle.draft.specs.Building.{Owner, numbered, arm_of}
+use Rattle.meaning.specs.Blocks.{Basic as Meant, Kind, basic, switch}
+use Rattle.events.specs.Notes.{Notes as Meaning, flagged, with_arms}
+use Rattle.program.specs.declared.blocks.Basic.{Basic}
+use Rattle.program.specs.declared.blocks.Arm.{Arm}
+use Rattle.program.specs.Store.{basic_as, arms_as}
 use Rattle.notes.specs.declared.notes.Row.{Row}
+use Rattle.notes.specs.declared.notes.Row.TheVariants.{Single, Switch}
 use Rattle.notes.specs.declared.notes.Notes.{Notes}
-use Rattle.notes.specs.Kinds.{entries_of, pendings_of, basic_of, arms_of, current_of, violation_of}
+use Rattle.notes.specs.Kinds.{entries_of, pendings_of, name_of, current_of, violation_of}
 
--- an arm that is not used
-abbrev pub unused : Arm
-unused = record { code = 0; basic = record { write = None; movement = None; then = End } }
+-- a numbered block, whose gotos lead to a G
+abbrev pub Block : Type 0 → Type 0
+Block G = Row (Basic G) (InlineList (Arm G) 37)
+
+-- what is written of blocks, where it is known what each goto leads to
+module _ {G H : Type 0} (target : G → H) where
+  -- of one
+  abbrev pub kind_as : Block G → Kind H
+  kind_as (Single b) = basic (basic_as target b)
+  kind_as (Switch arms) = switch (arms_as target (items_of arms))
+
+  -- of each
+  abbrev pub kinds_as : List (Block G) → List (Kind H)
+  kinds_as = map kind_as
 
 -- what a numbered block is
-abbrev pub kind_by : Text → Shape → ℕ → List Arm → Kind Text
-kind_by source Single n arms = basic (basic_of source (slice_index_or arms 0 unused).basic)
-kind_by source Switch n arms = switch (arms_of source (take n arms))
-
-abbrev pub kind_of : Text → Row → Kind Text
-kind_of source r = kind_by source r.shape r.count r.arms
+abbrev pub kind_of : Block Word → Kind Text
+kind_of = kind_as name_of
 
 -- blocks
-abbrev pub kinds_of : Text → List Row → List (Kind Text)
-kinds_of source [] = []
-kinds_of source (r ∷ rs) = kind_of source r ∷ kinds_of source rs
+abbrev pub kinds_of : List (Block Word) → List (Kind Text)
+kinds_of = kinds_as name_of
+
+-- a block in which the owner that stands in it has its basic block
+abbrev pub kind_filled : Owner → Meant Text → Kind Text → Kind Text
+kind_filled (numbered q) b k = basic b
+kind_filled (arm_of q cs) b k = with_arms cs b k
 
 -- notes
-unfoldable pub notes_of : Text → Notes → Meaning
-notes_of source n = record {
-  letters = take n.letter_count n.letters;
+unfoldable pub notes_of : Notes → Meaning
+notes_of n = record {
+  letters = items_of n.letters;
   width = n.width;
-  names = entries_of source (held n.modules.now).before;
-  gotos = pendings_of source (held n.gotos.now).before;
+  names = entries_of (held n.modules.now).before;
+  gotos = pendings_of (held n.gotos.now).before;
   count = n.count;
-  blocks = kinds_of source (take n.stored n.rows);
+  blocks = kinds_of (items_of n.rows);
   violation = violation_of n.violation;
   current = current_of n.current;
   name_room = (held n.modules.now).capacity;
   goto_room = (held n.gotos.now).capacity;
-}
-
--- with one letter more, if there is room
-unfoldable pub with_letter : ℕ → Meaning → Meaning
-with_letter c x = record {
-  letters = kept most_letters x.letters c;
-  width = x.width;
-  names = x.names;
-  gotos = x.gotos;
-  count = x.count;
-  blocks = x.blocks;
-  violation = x.violation;
-  current = x.current;
-  name_room = x.name_room;
-  goto_room = x.goto_room;
 }
 
 -- with a violation, if a module may not have this name

@@ -1,72 +1,51 @@
-ghost use Rattle.std.specs.Prelude.{◌≡◌, ◌≤◌, length};
+ghost use Rattle.std.specs.Prelude.{◌≡◌};
+ghost use Rattle.notes.specs.Kinds.{owner_of, number_of};
 
+use bounded::inline::InlineList;
+use program::blocks;
 use tape::kinds::Direction;
+use words::Word;
 
-// A stretch of the source.
+// A symbol by its code, with its place.
 #[derive(Clone, Copy, Drop)]
-pub struct Span {
-    pub start: usize,
-    pub length: usize,
+pub struct Symbol {
+    pub code: u8,
+    pub place: usize,
 }
 
 // A module: its name, and the number of its first block.
 #[derive(Clone, Copy, Drop)]
-pub struct Module {
-    pub name: Span,
+pub struct Module<'s> {
+    pub name: Word<'s>,
     pub first: u32,
 }
 
-// What comes after a basic block, as the source says it.
-#[derive(Clone, Copy, Drop)]
-pub enum Then {
-    // the same switch, in a while case
-    Again,
-    Accept,
-    Reject,
-    // goto, by its name
-    Goto(Span),
-    // the next block of the same body, by its number
-    Next(u32),
-    // the body has no next block
-    End,
-}
+// What comes after a basic block, as the source says it: a goto leads to a name.
+pub type Then<'s> = blocks::Then<Word<'s>>;
 
-// A basic block, as the source says it.
-#[derive(Clone, Copy, Drop)]
-pub struct Basic {
-    pub write: Option<u8>,
-    pub movement: Option<Direction>,
-    pub then: Then,
-}
+// How many symbols there are: the letters, and blank.
+pub const SYMBOLS: usize = 37;
 
-// A symbol of a switch, and the basic block that it leads to.
-#[derive(Clone, Copy, Drop)]
-pub struct Arm {
-    pub code: u8,
-    pub basic: Basic,
-}
+// The symbols of a case, by their codes.
+pub type Codes = InlineList<u8, SYMBOLS>;
 
-// What a numbered block is: a basic block, or a switch.
-#[derive(Clone, Copy, Drop)]
-pub enum Shape {
-    Single,
-    Switch,
-}
-
-// Whose basic block is under construction: that of a number, or that of these symbols in the switch of a number.
+// Whose basic block is under construction: that of a number, or that of these symbols in the switch of a number. Two kinds of owner, of which
+// an Option of the symbols would not tell.
 #[derive(Clone, Copy, Drop)]
 pub enum Owner {
     Numbered(u32),
     Arms(u32, Codes),
 }
 
-// The symbols of a case, by their codes.
-#[derive(Clone, Copy, Drop)]
-pub struct Codes {
-    pub count: u8,
-    pub at: [u8; 37],
-    ghost few: { count ≤ 37 },
-    ghost listed: { length at ≡ 37 },
+impl Owner {
+    // The number of the block that it stands in.
+    pub(crate) fn number(self) -> u32
+        ensures { result ≡ number_of (owner_of self) }
+    {
+        match self {
+            Owner::Numbered(number) | Owner::Arms(number, _) => number,
+        }
+    }
 }
 
 // The basic block under construction: whose it is, and what it writes and how it moves so far.

@@ -1,9 +1,14 @@
 ghost use Rattle.std.specs.Prelude.{◌≡◌, ◌≤◌, [], length};
 ghost use Rattle.bounded.specs.Held.{held};
+ghost use Rattle.bounded.specs.Inline.{items_of};
 
-use crate::kinds::{Arm, Current, Module, Shape, Span};
+use crate::kinds::{Current, Module, SYMBOLS};
+use alphabet::letters::operations::MAX_LETTERS;
+use bounded::inline::InlineList;
 use bounded::list::BoundedList;
 use meaning::faults::Fault;
+use program::blocks::{Arm, Basic};
+use words::Word;
 
 pub mod blocks;
 pub mod cases;
@@ -12,38 +17,36 @@ pub mod names;
 pub mod operations;
 pub mod rows;
 
-// A numbered block: a basic block has the first arm, a switch the first `count`.
+// A numbered block: a basic block, or a switch with its arms. Both are type parameters, since the checker proves nothing of
+// an enum with a lifetime over a struct with a ghost field, as `InlineList` is.
 #[derive(Clone, Copy, Drop)]
-pub struct Row {
-    shape: Shape,
-    count: u8,
-    arms: [Arm; 37],
-    ghost room: { count ≤ 37 },
-    ghost listed: { length arms ≡ 37 },
+pub enum Row<B, A> {
+    Single(B),
+    Switch(A),
 }
+
+// A numbered block, where `G` says where a goto leads.
+pub type Block<G> = Row<Basic<G>, InlineList<Arm<G>, SYMBOLS>>;
+
+// The blocks that are within the limits, by their numbers.
+pub type Blocks<G> = InlineList<Block<G>, 128>;
 
 // The letters of the alphabet; the modules and the gotos, in lists that are lent; the blocks within the limits; the lowest violation of a rule
 // so far; the basic block under construction.
 #[derive(Drop)]
-pub struct Notes<'n, 'm> {
-    modules: &'n mut BoundedList<'m, Module>,
-    gotos: &'n mut BoundedList<'m, Span>,
-    letters: [u8; 36],
-    letter_count: u8,
+pub struct Notes<'n, 'm, 's> {
+    modules: &'n mut BoundedList<'m, Module<'s>>,
+    gotos: &'n mut BoundedList<'m, Word<'s>>,
+    letters: InlineList<u8, MAX_LETTERS>,
     // how many columns there are, with every letter counted
     width: u32,
     // how many blocks have begun
     count: u32,
-    rows: [Row; 128],
-    // how many of them are within the limits
-    stored: u8,
+    // those of them that are within the limits
+    rows: Blocks<Word<'s>>,
     violation: Option<Fault>,
     current: Current,
     ghost module_end: { (held modules.now).after ≡ [] },
     ghost goto_end: { (held gotos.now).after ≡ [] },
-    ghost lettered: { length letters ≡ 36 },
-    ghost few_letters: { letter_count ≤ 36 },
-    ghost few: { stored ≤ 128 },
-    ghost begun: { stored ≤ count },
-    ghost whole: { length rows ≡ 128 },
+    ghost begun: { length (items_of rows) ≤ count },
 }

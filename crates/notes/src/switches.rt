@@ -1,6 +1,4 @@
-ghost use Rattle.std.specs.Prelude.{◌≡◌, length};
-
-use crate::kinds::Codes;
+use crate::kinds::{Codes, SYMBOLS};
 
 pub mod operations;
 
@@ -11,8 +9,7 @@ pub struct OpenSwitch {
     // the place of its first case
     pub(crate) first: usize,
     // for each code, whether it was seen
-    seen: [bool; 37],
+    seen: [bool; SYMBOLS],
     // of the case at hand
     pub(crate) codes: Codes,
-    ghost whole: { length seen ≡ 37 },
 }

@@ -1,14 +1,13 @@
 // One word, by what is awaited.
-ghost use Rattle.std.specs.Prelude.{◌≡◌, ◌≤◌, length};
-ghost use Rattle.words.specs.declared.token.Mark.TheVariants.{Open, Close, Equals};
-ghost use Rattle.words.specs.Tokens.{kind};
-ghost use Rattle.compiler.specs.Reading.{code_in, named, head_in, rest, Came, Took, Marks, Symbols, Names, Directions};
+ghost use Rattle.std.specs.Prelude.{◌≡◌};
+ghost use Rattle.words.specs.Words.{words};
+ghost use Rattle.compiler.specs.Reading.{source_of, rest, code_in, named, Came, Took, Marks, Symbols, Names, Directions};
 
-use super::{Head, Parser, Symbol};
+use super::Lexer;
 use meaning::faults::{Cause, Fault};
-use notes::kinds::Span;
+use notes::kinds::Symbol;
 use tape::kinds::Direction;
-use words::{Keyword, Mark, Token, Word};
+use words::{Keyword, Mark, Reader, Token, Word};
 
 // The fault of a word after which no program goes on, or of the end.
 pub(super) fn unexpected(place: usize) -> Fault
@@ -31,58 +30,55 @@ fn code_of(word: Word) -> Option<u8>
 fn is_name(word: Word) -> bool
     ensures { result ≡ named word.entry.text.now }
 {
-    match word.token() {
-        Some(token) => token.as_name().is_some(),
-        None => false,
-    }
+    word.token().is_some_and(|token| token.as_name().is_some())
 }
 
-// How the case begins whose first word this is, if it is one.
-pub(super) fn head_of(word: Word) -> Option<Head>
-    ensures { result ≡ head_in (kind word.entry.text.now) }
-{
-    match word.token() {
-        Some(Token::Keyword(Keyword::If, _)) => Some(Head::If),
-        Some(Token::Keyword(Keyword::While, _)) => Some(Head::While),
-        _ => None,
+impl<'a> Lexer<'a> {
+    // Before the first word of a source.
+    pub(crate) fn new(source: &'a [u8]) -> Lexer<'a>
+        ensures source { source_of result ≡ source.now }
+        ensures rest { rest result ≡ words source.now }
+    {
+        Lexer {
+            reader: Reader::new(source),
+        }
     }
-}
 
-impl<'a> Parser<'a> {
+    // The source that is read.
+    pub(super) fn source(&self) -> &'a [u8]
+        ensures { result.now ≡ source_of self.now }
+    {
+        self.reader.source()
+    }
+
     // The next word, if there is one.
     pub(super) fn next(&mut self) -> Option<Word<'a>>
-        ensures fewer { length (rest self.new) ≤ length (rest self.old) }
-        ensures came { Came result self.old self.new }
+        ensures { Came result self.old self.new }
     {
         self.reader.next()
     }
 
     // The next word, where the end would come too early.
     pub(super) fn take(&mut self) -> Result<Word<'a>, Fault>
-        ensures fewer { length (rest self.new) ≤ length (rest self.old) }
-        ensures took { Took result self.old self.new }
+        ensures { Took result self.old self.new }
     {
-        match self.next() {
-            Some(word) => Ok(word),
-            None => Err(unexpected(self.reader.source().len())),
-        }
+        self.next().ok_or(unexpected(self.source().len()))
     }
 
-    pub(super) fn open(&mut self) -> Result<usize, Fault>
-        ensures fewer { length (rest self.new) ≤ length (rest self.old) }
-        ensures reads { Marks result Open self.old self.new }
+    // This mark, by its place.
+    pub(super) fn mark(&mut self, awaited: Mark) -> Result<usize, Fault>
+        ensures { Marks result awaited self.old self.new }
     {
         let word = self.take()?;
         match word.token() {
-            Some(Token::Mark(Mark::Open, _)) => Ok(word.place),
+            Some(Token::Mark(mark, _)) if mark == awaited => Ok(word.place),
             _ => Err(unexpected(word.place)),
         }
     }
 
     // The direction of a move.
     pub(super) fn direction(&mut self) -> Result<Direction, Fault>
-        ensures fewer { length (rest self.new) ≤ length (rest self.old) }
-        ensures reads { Directions result self.old self.new }
+        ensures { Directions result self.old self.new }
     {
         let word = self.take()?;
         match word.token() {
@@ -92,56 +88,26 @@ impl<'a> Parser<'a> {
         }
     }
 
-    pub(super) fn close(&mut self) -> Result<usize, Fault>
-        ensures fewer { length (rest self.new) ≤ length (rest self.old) }
-        ensures reads { Marks result Close self.old self.new }
-    {
-        let word = self.take()?;
-        match word.token() {
-            Some(Token::Mark(Mark::Close, _)) => Ok(word.place),
-            _ => Err(unexpected(word.place)),
-        }
-    }
-
-    pub(super) fn equals(&mut self) -> Result<usize, Fault>
-        ensures fewer { length (rest self.new) ≤ length (rest self.old) }
-        ensures reads { Marks result Equals self.old self.new }
-    {
-        let word = self.take()?;
-        match word.token() {
-            Some(Token::Mark(Mark::Equals, _)) => Ok(word.place),
-            _ => Err(unexpected(word.place)),
-        }
-    }
-
     // A symbol of the alphabet, of a changeto or of a case.
     pub(super) fn symbol(&mut self) -> Result<Symbol, Fault>
-        ensures fewer { length (rest self.new) ≤ length (rest self.old) }
-        ensures reads { Symbols result self.old self.new }
+        ensures { Symbols result self.old self.new }
     {
         let word = self.take()?;
-        match code_of(word) {
-            Some(code) => Ok(Symbol {
-                code,
-                place: word.place,
-            }),
-            None => Err(unexpected(word.place)),
-        }
+        let code = code_of(word).ok_or(unexpected(word.place))?;
+        Ok(Symbol {
+            code,
+            place: word.place,
+        })
     }
 
-    // The name of a module.
-    pub(super) fn name(&mut self) -> Result<Span, Fault>
-        ensures fewer { length (rest self.new) ≤ length (rest self.old) }
-        ensures reads { Names result self.old self.new }
+    // The name of a module, or of a goto.
+    pub(super) fn name(&mut self) -> Result<Word<'a>, Fault>
+        ensures { Names result self.old self.new }
     {
         let word = self.take()?;
-        if is_name(word) {
-            Ok(Span {
-                start: word.place,
-                length: word.text.len(),
-            })
-        } else {
-            Err(unexpected(word.place))
+        if !is_name(word) {
+            return Err(unexpected(word.place));
         }
+        Ok(word)
     }
 }

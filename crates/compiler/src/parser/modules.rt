@@ -1,82 +1,76 @@
 // The descent, from a program to what stands in its modules.
-ghost use Rattle.std.specs.Prelude.{◌≡◌, ◌≤◌, [], ◌∷◌, length};
-ghost use Rattle.events.specs.Descent.{inside_end, a_module, an_alphabet, modules, start};
-ghost use Rattle.compiler.specs.Reading.{rest, Reads, Continues, Ends};
+ghost use Rattle.std.specs.Prelude.{[], ◌∷◌};
+ghost use Rattle.events.specs.Descent.{inside_end, a_module, an_alphabet, edges, modules, start};
+ghost use Rattle.compiler.specs.Reading.{Reads, Continues, Ends};
 
-use super::Parser;
-use super::lexemes::{head_of, unexpected};
+use super::lexemes::unexpected;
+use super::{Case, Parser, Room};
 use meaning::faults::Fault;
-use notes::notes::Notes;
-use words::{Keyword, Token, Word};
+use words::{Keyword, Mark, Token, Word};
 
-// How many cases may stand in one another.
-const DEEPEST: u8 = 16;
-
-impl<'a> Parser<'a> {
+impl<'a, 'n, 'm> Parser<'a, 'n, 'm> {
     // What stands in a module, and the brace behind it.
-    fn inside(&mut self, out: &mut Notes) -> Result<(), Fault>
-        ensures fewer { length (rest self.new) ≤ length (rest self.old) }
-        ensures reads { Reads result (inside_end ∷ []) self.old out.old self.new out.new }
+    fn inside(&mut self) -> Result<(), Fault>
+        ensures { Reads result (inside_end ∷ []) self.old self.new }
     {
-        let word = self.take()?;
-        match head_of(word) {
-            Some(head) => self.switch(out, head, word.place, DEEPEST),
+        let word = self.lexer.take()?;
+        let room = Room::full();
+        match Case::of(word, room) {
+            Some(case) => self.switch(case),
             None => {
-                out.begin(word.place);
-                self.commands(out, word, DEEPEST)
+                self.notes.begin(word.place);
+                self.commands(word, room)
             }
         }
     }
 
     // A module whose first word is taken.
-    fn module(&mut self, out: &mut Notes, word: Word<'a>) -> Result<(), Fault>
-        ensures fewer { length (rest self.new) ≤ length (rest self.old) }
-        ensures reads { Continues result a_module word.entry self.old out.old self.new out.new }
+    fn module(&mut self, word: Word<'a>) -> Result<(), Fault>
+        ensures { Continues result (edges a_module) word.entry self.old self.new }
     {
         match word.token() {
             Some(Token::Keyword(Keyword::Module, _)) => {
-                let name = self.name()?;
-                out.name(self.reader.source(), name);
-                let _ = self.open()?;
-                self.inside(out)
+                let name = self.lexer.name()?;
+                self.notes.name(name);
+                self.lexer.mark(Mark::Open)?;
+                self.inside()
             }
             _ => Err(unexpected(word.place)),
         }
     }
 
     // The modules up to the end.
-    fn modules(&mut self, out: &mut Notes) -> Result<(), Fault>
-        ensures { Ends result modules self.old out.old out.new }
+    fn modules(&mut self) -> Result<(), Fault>
+        ensures { Ends result modules self.old self.new }
     {
-        while let Some(word) = self.next() {
-            self.module(out, word)?;
+        while let Some(word) = self.lexer.next() {
+            self.module(word)?;
         }
         Ok(())
     }
 
     // The alphabet.
-    fn alphabet(&mut self, out: &mut Notes) -> Result<(), Fault>
-        ensures fewer { length (rest self.new) ≤ length (rest self.old) }
-        ensures reads { Reads result (an_alphabet ∷ []) self.old out.old self.new out.new }
+    fn alphabet(&mut self) -> Result<(), Fault>
+        ensures { Reads result (an_alphabet ∷ []) self.old self.new }
     {
-        let word = self.take()?;
+        let word = self.lexer.take()?;
         match word.token() {
             Some(Token::Keyword(Keyword::Alphabet, _)) => {
-                let _ = self.equals()?;
-                let _ = self.open()?;
-                self.letters(out)
+                self.lexer.mark(Mark::Equals)?;
+                self.lexer.mark(Mark::Open)?;
+                self.letters()
             }
             _ => Err(unexpected(word.place)),
         }
     }
 
     // A program up to the end.
-    pub(crate) fn program(&mut self, out: &mut Notes) -> Result<(), Fault>
-        ensures { Ends result start self.old out.old out.new }
+    pub(crate) fn program(&mut self) -> Result<(), Fault>
+        ensures { Ends result start self.old self.new }
     {
-        self.alphabet(out)?;
-        let word = self.take()?;
-        self.module(out, word)?;
-        self.modules(out)
+        self.alphabet()?;
+        let word = self.lexer.take()?;
+        self.module(word)?;
+        self.modules()
     }
 }

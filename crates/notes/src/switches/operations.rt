@@ -1,33 +1,11 @@
-ghost use Rattle.std.specs.Prelude.{◌≡◌, false, [], slice_index_or};
+ghost use Rattle.std.specs.Prelude.{◌≡◌, false, slice_index_or};
 ghost use Rattle.meaning.specs.Codes.{columns};
-ghost use Rattle.events.specs.Notes.{another_case, symbol_seen, all_seen, kept};
+ghost use Rattle.events.specs.Notes.{another_case, symbol_seen, all_seen};
 ghost use Rattle.notes.specs.Switches.{switch_of, empty_switch};
-ghost use Rattle.notes.specs.Kinds.{codes_of};
 
-use crate::kinds::Codes;
+use crate::kinds::SYMBOLS;
 use crate::switches::OpenSwitch;
-
-// No symbol.
-fn no_codes() -> Codes
-    ensures { codes_of result ≡ [] }
-{
-    Codes {
-        count: 0,
-        at: [0; 37],
-    }
-}
-
-// Symbols with one more, if there is room.
-fn with_code(mut codes: Codes, code: u8) -> Codes
-    ensures { codes_of result ≡ kept 37 (codes_of codes) code }
-{
-    if codes.count >= 37 {
-        return codes;
-    }
-    codes.at[codes.count as usize] = code;
-    codes.count += 1;
-    codes
-}
+use bounded::inline::InlineList;
 
 impl OpenSwitch {
     // A switch before its first symbol.
@@ -37,8 +15,8 @@ impl OpenSwitch {
         OpenSwitch {
             number,
             first,
-            seen: [false; 37],
-            codes: no_codes(),
+            seen: [false; SYMBOLS],
+            codes: InlineList::new(0),
         }
     }
 
@@ -46,15 +24,16 @@ impl OpenSwitch {
     pub fn begin_case(&mut self)
         ensures { switch_of self.new ≡ another_case (switch_of self.old) }
     {
-        self.codes = no_codes();
+        self.codes = InlineList::new(0);
     }
 
-    // One more symbol.
+    // One more symbol; the case keeps it if there is room.
     pub(crate) fn see(&mut self, code: u8)
         ensures { switch_of self.new ≡ symbol_seen code (switch_of self.old) }
     {
-        self.codes = with_code(self.codes, code);
-        if code < 37 {
+        let _ = self.codes.push(code);
+        // by index, as the library doesn't say what an array holds after a write through `get_mut`
+        if (code as usize) < self.seen.len() {
             self.seen[code as usize] = true;
         }
     }
@@ -63,17 +42,14 @@ impl OpenSwitch {
     pub(crate) fn has_seen(&self, code: u8) -> bool
         ensures { result ≡ slice_index_or (switch_of self.now).seen code false }
     {
-        if code < 37 {
-            self.seen[code as usize]
-        } else {
-            false
-        }
+        self.seen.get(code as usize).copied().unwrap_or(false)
     }
 
     // Were these letters and blank seen?
     pub(crate) fn covers(&self, letters: &[u8]) -> bool
         ensures { result ≡ all_seen (columns letters.now) (switch_of self.now).seen }
     {
+        // by index, as docs/DECISIONS.md wants this loop over an alphabet, in this form
         for i in 0..letters.len() {
             if !self.has_seen(letters[i]) {
                 return false;

@@ -1,7 +1,10 @@
-use Rattle.events.specs.Notes.{finished, with_blocks}
+use Rattle.std.proofs.Common.{arith}
+use Rattle.std.proofs.lemmas.Bool.Decides.{nat_tests}
+use Rattle.events.specs.Notes.{finished}
+use Rattle.notes.specs.Kinds.{name_of}
 use Rattle.notes.specs.Noted.{notes_of}
 use Rattle.notes.proofs.notes.Notes.finish.Goals as goal
 
 pub returns : goal.returns
-unfolding notes_of finished with_blocks
-returns c = λ source. c.fill.ensures source
+unfolding notes_of finished
+returns c = grind (arith, nat_tests, c.fill.ensures.blocks name_of)

@@ -1,7 +1,7 @@
 use Rattle.events.specs.Notes.{flagged}
 use Rattle.notes.specs.Noted.{notes_of}
-use Rattle.notes.proofs.notes.Notes.flag.Goals as goal
+use Rattle.notes.proofs.notes.Notes.violate.Goals as goal
 
 pub returns : goal.returns
 unfolding notes_of flagged
-returns c = λ source. cc
+returns c = cc
