@@ -16,40 +16,32 @@ struct PendingGoto {
     place: u32,
 }
 
+fn name(start: u32, length: u16) -> ModuleName {
+    ModuleName { start, length }
+}
+
 #[test]
 fn names_in_order(rt: HostRuntime) {
-    let none = ModuleName {
-        start: 0,
-        length: 0,
-    };
-    let first = ModuleName {
-        start: 20,
-        length: 4,
-    };
-    let second = ModuleName {
-        start: 55,
-        length: 1,
-    };
+    let [none, first, second] = [name(0, 0), name(20, 4), name(55, 1)];
     let mut memory = [none; 2];
     let mut names = BoundedList::new(&mut memory);
     assert_eq!(rt; names.len(), 0);
     assert_eq!(rt; names.get(0), None);
-    assert_eq!(rt; names.push(first), Ok(()));
-    assert_eq!(rt; names.push(second), Ok(()));
-    assert_eq!(rt; names.push(none), Err(Full), "full is refused");
+    for (added, answer) in [(first, Ok(())), (second, Ok(())), (none, Err(Full))] {
+        assert_eq!(rt; names.push(added), answer);
+    }
     assert_eq!(rt; names.len(), 2);
-    assert_eq!(rt; names.get(0), Some(first));
-    assert_eq!(rt; names.get(1), Some(second));
-    assert_eq!(rt; names.get(usize::MAX), None);
+    for (index, found) in [(0, Some(first)), (1, Some(second)), (usize::MAX, None)] {
+        assert_eq!(rt; names.get(index), found);
+    }
 }
 
 #[test]
 fn gotos_are_settled(rt: HostRuntime) {
-    let name = ModuleName {
-        start: 9,
-        length: 2,
+    let goto = PendingGoto {
+        name: name(9, 2),
+        place: 40,
     };
-    let goto = PendingGoto { name, place: 40 };
     let mut memory = [goto; 1];
     let mut gotos = BoundedList::new(&mut memory);
     assert_eq!(rt; gotos.push(goto), Ok(()));

@@ -14,13 +14,18 @@ const FREE: NonblankCell = NonblankCell { cell: 0, code: 0 };
 
 // What holds of a blank tape of one cell, one of which may be nonblank.
 fn one_cell<T: Tape>(rt: &impl Abort, tape: &mut T) {
-    assert_eq!(rt; tape.shift(Direction::Left), Err(TapeRefusal::Edge));
-    assert_eq!(rt; tape.shift(Direction::Right), Err(TapeRefusal::Edge));
-    assert_eq!(rt; tape.look(i32::MIN), None);
-    assert_eq!(rt; tape.look(-1), None);
-    assert_eq!(rt; tape.look(0), Some(0));
-    assert_eq!(rt; tape.look(1), None);
-    assert_eq!(rt; tape.look(i32::MAX), None);
+    for direction in [Direction::Left, Direction::Right] {
+        assert_eq!(rt; tape.shift(direction), Err(TapeRefusal::Edge));
+    }
+    for (distance, code) in [
+        (i32::MIN, None),
+        (-1, None),
+        (0, Some(0)),
+        (1, None),
+        (i32::MAX, None),
+    ] {
+        assert_eq!(rt; tape.look(distance), code);
+    }
     assert_eq!(rt; tape.put(37), Err(TapeRefusal::Code));
     assert_eq!(rt; tape.put(36), Ok(()));
     assert_eq!(rt; tape.look(0), Some(36));
@@ -56,10 +61,15 @@ fn largest<T: Tape>(rt: &impl Abort, tape: &mut T) {
     assert_eq!(rt; tape.put(26), Ok(()));
     assert_eq!(rt; tape.shift(Direction::Left), Ok(()));
     assert_eq!(rt; tape.put(27), Ok(()));
-    assert_eq!(rt; tape.look(1), Some(26));
-    assert_eq!(rt; tape.look(2), None);
-    assert_eq!(rt; tape.look(-4094), Some(0), "the first cell");
-    assert_eq!(rt; tape.look(-4095), None);
+    for (distance, code) in [
+        (1, Some(26)),
+        (2, None),
+        // the first cell
+        (-4094, Some(0)),
+        (-4095, None),
+    ] {
+        assert_eq!(rt; tape.look(distance), code);
+    }
     assert_eq!(rt;
         &display(tape)[0..15] == b"_______0z      ".as_slice(),
         true
@@ -109,40 +119,56 @@ fn capacity_0_and_full(rt: HostRuntime) -> Result<(), Fail> {
 
 #[test]
 fn what_no_tape_is_made_of(rt: HostRuntime) {
-    assert_eq!(rt; DenseTape::check(&[], 0), Err(TapeRefusal::Shape));
-    assert_eq!(rt; DenseTape::check(&[0, 0], 2), Err(TapeRefusal::Shape));
-    assert_eq!(rt; DenseTape::check(&[0, 36], 1), Ok(()));
-    assert_eq!(rt; DenseTape::check(&[0, 37], 1), Err(TapeRefusal::Shape));
-    assert_eq!(rt; DenseTape::check(&[0; 4097], 0), Err(TapeRefusal::Shape));
+    let no_tape = Err(TapeRefusal::Shape);
+    let cells_and_heads: [(&[u8], usize, Result<(), TapeRefusal>); 5] = [
+        (&[], 0, no_tape),
+        (&[0, 0], 2, no_tape),
+        (&[0, 36], 1, Ok(())),
+        (&[0, 37], 1, no_tape),
+        (&[0; 4097], 0, no_tape),
+    ];
+    for (cells, head, answer) in cells_and_heads {
+        assert_eq!(rt; DenseTape::check(cells, head), answer);
+    }
     let mut memory = [FREE; 2];
     let records = BoundedList::new(&mut memory);
-    assert_eq!(rt; SparseTape::check(&records, 2, 1), Ok(()));
-    assert_eq!(rt; SparseTape::check(&records, 2, 2), Err(TapeRefusal::Shape));
-    assert_eq!(rt;
-        SparseTape::check(&records, 1, 0),
-        Err(TapeRefusal::Shape),
-        "more records than cells"
-    );
-    assert_eq!(rt; SparseTape::check(&records, 4096, 0), Ok(()));
-    assert_eq!(rt;
-        SparseTape::check(&records, 4097, 0),
-        Err(TapeRefusal::Shape)
-    );
+    for (size, head, answer) in [
+        (2, 1, Ok(())),
+        (2, 2, no_tape),
+        // more records than cells
+        (1, 0, no_tape),
+        (4096, 0, Ok(())),
+        (4097, 0, no_tape),
+    ] {
+        assert_eq!(rt; SparseTape::check(&records, size, head), answer);
+    }
 }
 
 #[test]
 fn codes_and_letters(rt: HostRuntime) {
-    assert_eq!(rt; code_of(b'a'), Some(1));
-    assert_eq!(rt; code_of(b'z'), Some(26));
-    assert_eq!(rt; code_of(b'0'), Some(27));
-    assert_eq!(rt; code_of(b'9'), Some(36));
-    assert_eq!(rt; code_of(b'A'), None);
-    assert_eq!(rt; code_of(b'_'), None);
-    assert_eq!(rt; letter_of(0), None);
-    assert_eq!(rt; letter_of(36), Some(b'9'));
-    assert_eq!(rt; letter_of(37), None);
-    assert_eq!(rt; TapeRefusal::Code.number(), 12);
-    assert_eq!(rt; TapeRefusal::Edge.number(), 13);
-    assert_eq!(rt; TapeRefusal::Capacity.number(), 14);
-    assert_eq!(rt; TapeRefusal::Shape.number(), 20);
+    for (byte, code) in [
+        (b'a', Some(1)),
+        (b'z', Some(26)),
+        (b'0', Some(27)),
+        (b'9', Some(36)),
+        (b'A', None),
+        (b'_', None),
+    ] {
+        assert_eq!(rt; code_of(byte), code);
+    }
+    for (code, letter) in [(0, None), (36, Some(b'9')), (37, None)] {
+        assert_eq!(rt; letter_of(code), letter);
+    }
+}
+
+#[test]
+fn numbers_of_refusals(rt: HostRuntime) {
+    for (refusal, number) in [
+        (TapeRefusal::Code, 12),
+        (TapeRefusal::Edge, 13),
+        (TapeRefusal::Capacity, 14),
+        (TapeRefusal::Shape, 20),
+    ] {
+        assert_eq!(rt; refusal.number(), number);
+    }
 }

@@ -4,77 +4,77 @@ use std::test::Fail;
 use transcript::page::TooShort;
 use transcript::transcript::{LONGEST, transcript};
 
-fn prints(rt: &impl Abort, input: &[u8], expected: &[u8]) -> Result<(), Fail> {
+const BLANK: &str = "dense _______________\nsparse _______________\n";
+
+const BAD_WORD: &str = "bad word\n";
+
+fn prints(rt: &impl Abort, input: &[u8], expected: &str) -> Result<(), Fail> {
     let mut output = [b'.'; LONGEST];
     let length = transcript(input, &mut output)?;
     assert!(rt; length <= LONGEST);
-    assert_eq!(rt; &output[0..length] == expected, true);
+    assert_eq!(rt; &output[..length] == expected.as_bytes(), true);
     Ok(())
 }
 
 #[test]
 fn words(rt: HostRuntime) -> Result<(), Fail> {
-    prints(&rt, b"", b"dense _______________\nsparse _______________\n")?;
-    prints(
-        &rt,
-        b"no percent",
-        b"dense _______________\nsparse _______________\n",
-    )?;
-    prints(
-        &rt,
-        b"alphabet = {a}\r\n\tmodule m {}%",
-        b"dense _______________\nsparse _______________\n",
-    )?;
-    prints(
-        &rt,
-        b"%ab_9z\nrest % of it",
-        b"dense _______ab_9z___\nsparse _______ab_9z___\n",
-    )?;
-    prints(
-        &rt,
-        b"%abcdefghij",
-        b"dense _______abcdefgh\nsparse _______abcdefgh\n",
-    )
+    for (input, expected) in [
+        ("", BLANK),
+        ("no percent", BLANK),
+        ("alphabet = {a}\r\n\tmodule m {}%", BLANK),
+        (
+            "%ab_9z\nrest % of it",
+            "dense _______ab_9z___\nsparse _______ab_9z___\n",
+        ),
+        (
+            "%abcdefghij",
+            "dense _______abcdefgh\nsparse _______abcdefgh\n",
+        ),
+    ] {
+        prints(&rt, input.as_bytes(), expected)?;
+    }
+    Ok(())
 }
 
 #[test]
 fn refused_sources(rt: HostRuntime) -> Result<(), Fail> {
-    prints(&rt, b"#%a", b"refused 2 at 0\n")?;
-    prints(&rt, b"alphabet={\"a\"}%A", b"refused 2 at 10\n")?;
-    prints(&rt, b"alphabet={a}module m{goto n}#", b"refused 2 at 28\n")?;
-    prints(&rt, b"a_b%ab", b"refused 2 at 1\n")
+    for (input, expected) in [
+        ("#%a", "refused 2 at 0\n"),
+        ("alphabet={\"a\"}%A", "refused 2 at 10\n"),
+        ("alphabet={a}module m{goto n}#", "refused 2 at 28\n"),
+        ("a_b%ab", "refused 2 at 1\n"),
+    ] {
+        prints(&rt, input.as_bytes(), expected)?;
+    }
+    Ok(())
 }
 
 #[test]
 fn longest_source(rt: HostRuntime) -> Result<(), Fail> {
     let mut input = [b' '; 60_001];
-    prints(
-        &rt,
-        &input[0..60_000],
-        b"dense _______________\nsparse _______________\n",
-    )?;
+    prints(&rt, &input[..60_000], BLANK)?;
     input[0] = b'#';
-    prints(&rt, &input, b"refused 1 at 60000\n")
+    prints(&rt, &input, "refused 1 at 60000\n")
 }
 
 #[test]
 fn bad_words(rt: HostRuntime) -> Result<(), Fail> {
-    prints(&rt, b"%aB", b"bad word\n")?;
-    prints(&rt, b"%a%", b"bad word\n")?;
-    prints(&rt, b"%a\r\n", b"bad word\n")?;
-    prints(&rt, b"% a", b"bad word\n")
+    for input in ["%aB", "%a%", "%a\r\n", "% a"] {
+        prints(&rt, input.as_bytes(), BAD_WORD)?;
+    }
+    Ok(())
 }
 
 #[test]
 fn longest_word(rt: HostRuntime) -> Result<(), Fail> {
     let mut input = [b'q'; 82];
     input[0] = b'%';
-    prints(&rt, &input, b"bad word\n")?;
+    prints(&rt, &input, BAD_WORD)?;
     input[81] = b'\n';
     prints(
         &rt,
         &input,
-        b"dense _______qqqqqqqq\nsparse _______qqqqqqqq\n",
+        "dense _______qqqqqqqq\nsparse _______qqqqqqqq\n",
     )
 }
 

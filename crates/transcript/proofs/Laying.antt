@@ -1,85 +1,67 @@
--- One code laid after others; and a word laid on blank cells.
-use Rattle.std.proofs.Common.{◌≡◌, ℕ, suc, ◌+◌, ◌-◌, ◌<◌, ◌≤◌, true, cond, leb, List, [], ◌∷◌, ◌++◌, length, get_or, take, drop, set, replicate, Ok, Err, Result, sym, ap, ◌∙◌, arith, ne_eqb, leb-true}
-use Rattle.std.proofs.lemmas.List.{at_drop_more, take-append-drop, append_assoc, replicate-append-replicate, length-replicate, length-append, get_or_at, set_at}
-use Rattle.tape.specs.declared.kinds.Direction.TheVariants.{Left}
-use Rattle.tape.specs.declared.kinds.TapeRefusal.{TapeRefusal}
-use Rattle.tape.specs.declared.kinds.TapeRefusal.TheVariants.{Edge}
+-- Codes laid from the last to the first; and a word laid on blank cells.
+use Rattle.std.proofs.Common.{◌≡◌, ℕ, suc, ◌+◌, ◌-◌, ◌≤◌, true, List, [], ◌∷◌, ◌++◌, length, get_or, set, replicate, Ok, Err, Result, sym, refl, ap, ◌∙◌, arith}
 use Rattle.std.proofs.lemmas.Bool.Decides.{nat_tests}
-use Rattle.tape.proofs.Cells.{both, blank_room}
-use Rattle.tape.specs.Meaning.{Meaning, all_codes, nonblank, written, unless_refused, put_answer, put_after, shift_answer, shift_after}
+use Rattle.std.proofs.lemmas.List.{append_assoc, replicate-append-replicate, replicate_more, length-replicate, length-append, length-take, get_or_at, set_at}
+use Rattle.tape.specs.declared.kinds.TapeRefusal.{TapeRefusal}
+use Rattle.tape.specs.Meaning.{Meaning, all_codes}
+use Rattle.tape.proofs.Cells.{blank_room}
+use Rattle.transcript.specs.declared.word.Word.{Word}
+use Rattle.transcript.specs.Word.{codes_in}
 use Rattle.transcript.specs.Lay.{Laid, and_then, lay_one, laid, blank_cells, word_cells}
 
-abbrev pub of : Result (Unit {0}) TapeRefusal → Meaning → Laid
+abbrev of : Result (Unit {0}) TapeRefusal → Meaning → Laid
 of a m = record { answer = a; tape = m }
 
--- what a code is laid onto
-pub before_one : (cs : List ℕ) (i : ℕ) (m k : Meaning) → i < length cs → laid (drop (i + 1) cs) m ≡ of (Ok tt) k → laid (drop i cs) m ≡ lay_one (get_or cs i 0) k
-before_one cs i m k lt e =
-    at_drop_more (λ l. laid l m) cs i 0 lt ∙ ap (λ r. and_then r.answer r.tape (lay_one (get_or cs i 0))) e
+and_nothing : (a : Result (Unit {0}) TapeRefusal) (m : Meaning) → and_then a m (of (Ok tt)) ≡ of a m
+and_nothing (Ok u) m = refl
+and_nothing (Err e) m = refl
 
-pub one_done : (c : ℕ) (k n p : Meaning) (u v : Unit {0}) → Ok u ≡ shift_answer k Left → n ≡ shift_after k Left → Ok v ≡ put_answer n c → p ≡ put_after n c → lay_one c k ≡ of (Ok tt) p
-one_done c k n p u v a e b f =
-    ap (λ r. and_then r (shift_after k Left) (λ t. of (put_answer t c) (put_after t c))) (sym a)
-    ∙ ap (λ t. of (put_answer t c) (put_after t c)) (sym e) ∙ (λ j. of (sym b j) (sym f j))
+and_more : (a : Result (Unit {0}) TapeRefusal) (m : Meaning) (f g : Meaning → Laid) → and_then (and_then a m f).answer (and_then a m f).tape g ≡ and_then a m (λ k. and_then (f k).answer (f k).tape g)
+and_more (Ok u) m f g = refl
+and_more (Err e) m f g = refl
 
-pub no_shift : (c : ℕ) (k n : Meaning) (x : TapeRefusal) → Err x ≡ shift_answer k Left → n ≡ shift_after k Left → lay_one c k ≡ of (Err x) n
-no_shift c k n x a e = ap (λ r. and_then r (shift_after k Left) (λ t. of (put_answer t c) (put_after t c))) (sym a) ∙ ap (of (Err x)) (sym e)
-
-pub no_put : (c : ℕ) (k n p : Meaning) (u : Unit {0}) (x : TapeRefusal) → Ok u ≡ shift_answer k Left → n ≡ shift_after k Left → Err x ≡ put_answer n c → p ≡ put_after n c → lay_one c k ≡ of (Err x) p
-no_put c k n p u x a e b f =
-    ap (λ r. and_then r (shift_after k Left) (λ t. of (put_answer t c) (put_after t c))) (sym a)
-    ∙ ap (λ t. of (put_answer t c) (put_after t c)) (sym e) ∙ (λ j. of (sym b j) (sym f j))
-
--- a refusal ends the laying
-stays : (xs ys : List ℕ) (m k : Meaning) (x : TapeRefusal) → laid ys m ≡ of (Err x) k → laid (xs ++ ys) m ≡ of (Err x) k
-stays [] ys m k x e = e
-stays (c ∷ xs) ys m k x e = ap (λ r. and_then r.answer r.tape (lay_one c)) (stays xs ys m k x e)
-
-pub refused : (cs : List ℕ) (i : ℕ) (m k : Meaning) (x : TapeRefusal) → laid (drop i cs) m ≡ of (Err x) k → laid cs m ≡ of (Err x) k
-refused cs i m k x e = ap (λ l. laid l m) (sym (take-append-drop i cs)) ∙ stays (take i cs) (drop i cs) m k x e
-
-abbrev zeros : ℕ → List ℕ
-zeros n = replicate n 0
-
-one_more : (h : ℕ) (xs : List ℕ) → zeros (h + 1) ++ xs ≡ zeros h ++ (0 ∷ xs)
-one_more h xs = ap (λ l. l ++ xs) (sym (replicate-append-replicate h 1 0)) ∙ append_assoc (zeros h) (0 ∷ []) xs
+-- a word's last code is laid first
+pub laid_push : (cs : List ℕ) (c : ℕ) (m : Meaning) → laid (cs ++ c ∷ []) m ≡ and_then (lay_one c m).answer (lay_one c m).tape (laid cs)
+laid_push [] c m = sym (and_nothing (lay_one c m).answer (lay_one c m).tape)
+laid_push (x ∷ cs) c m = ap (λ r. and_then r.answer r.tape (lay_one x)) (laid_push cs c m) ∙ and_more (lay_one c m).answer (lay_one c m).tape (laid cs) (lay_one x)
 
 abbrev with_head : ℕ → List ℕ → ℕ → Meaning
 with_head n cs h = record { capacity = n; cells = cs; head = h }
 
--- one code laid before others, on cells that are blank up to there
-one_before : (n h c : ℕ) (cs : List ℕ) → h + 1 + length cs ≤ n → c ≤ 36 → lay_one c (word_cells n (h + 1) cs) ≡ of (Ok tt) (word_cells n h (c ∷ cs))
-one_before n h c cs fits code =
-    let behind : List ℕ = cs ++ zeros (n - (h + 1 + length cs)) in
-    let all : List ℕ = zeros (h + 1) ++ behind in
-    let here : Meaning = with_head n all h in
-    let front : length (zeros h) ≡ h = length-replicate h 0 in
-    let parted : all ≡ zeros h ++ (0 ∷ behind) = one_more h behind in
-    let long-front = length-replicate {A = ℕ} (h + 1) 0 in
-    let long-end = length-replicate {A = ℕ} (n - (h + 1 + length cs)) 0 in
-    let long-behind = length-append cs (zeros (n - (h + 1 + length cs))) in
-    let long-all = length-append (zeros (h + 1)) behind in
-    let blank : get_or all h 0 ≡ 0 = ap (λ l. get_or l h 0) parted ∙ get_or_at (zeros h) 0 behind 0 h front in
-    let room : nonblank all < length all = blank_room all h (omega arith) blank in
-    let less : nonblank all < n = omega arith in
-    let a : Ok tt ≡ shift_answer (with_head n all (h + 1)) Left = sym (ap (λ t. cond t (Err Edge) (Ok tt)) (ne_eqb (h + 1) 0 (λ e. omega arith))) in
-    let back : h ≡ h + 1 - 1 = omega arith in
-    let b : Ok tt ≡ put_answer here c = grind (arith, nat_tests) in
-    let rest : n - (h + suc (length cs)) ≡ n - (h + 1 + length cs) = omega arith in
-    let put : zeros h ++ (c ∷ (cs ++ zeros (n - (h + suc (length cs))))) ≡ set all h c =
-    ap (λ j. zeros h ++ (c ∷ (cs ++ zeros j))) rest ∙ sym (ap (λ l. set l h c) parted ∙ set_at (zeros h) 0 behind c h front) in
-    one_done c (with_head n all (h + 1)) here (word_cells n h (c ∷ cs)) tt tt a
-    (ap (with_head n all) back ∙ ap (λ r. unless_refused r (with_head n all (h + 1)) (with_head n all (h + 1 - 1))) a)
-    b (ap (λ l. with_head n l h) put ∙ ap (λ r. unless_refused r here (written here c)) b)
+-- a code laid into a blank cell
+into_blank : (n h c : ℕ) (front behind : List ℕ) → length front ≡ h → h + 1 + length behind ≤ n → c ≤ 36 → lay_one c (with_head n (front ++ 0 ∷ behind) (h + 1)) ≡ of (Ok tt) (with_head n (front ++ c ∷ behind) h)
+into_blank n h c front behind e fits code =
+    let all = length-append front (0 ∷ behind) in
+    let blank : get_or (front ++ 0 ∷ behind) h 0 ≡ 0 = get_or_at front 0 behind 0 h e in
+    let room = blank_room (front ++ 0 ∷ behind) h (omega arith) blank in
+    let put : set (front ++ 0 ∷ behind) h c ≡ front ++ c ∷ behind = set_at front 0 behind c h e in
+    let back : h + 1 - 1 ≡ h = omega arith in
+    rw back (grind (arith, nat_tests))
+
+abbrev zeros : ℕ → List ℕ
+zeros n = replicate n 0
+
+one_more : (h : ℕ) (xs : List ℕ) → zeros (h + 1) ++ xs ≡ zeros h ++ 0 ∷ xs
+one_more h xs = ap (λ l. l ++ xs) (sym (replicate_more h 0)) ∙ append_assoc (zeros h) (0 ∷ []) xs
 
 -- a word laid on blank cells: the word stands there, and nothing is refused
-pub word_laid : (n h : ℕ) (word : List ℕ) → h + length word ≤ n → all_codes word ≡ true → laid word (blank_cells n (h + length word)) ≡ of (Ok tt) (word_cells n h word)
+word_laid : (n h : ℕ) (word : List ℕ) → h + length word ≤ n → all_codes word ≡ true → laid word (blank_cells n (h + length word)) ≡ of (Ok tt) (word_cells n h word)
 word_laid n h [] fits codes =
     let none : h + 0 ≡ h = omega arith in
-    let all : n ≡ h + (n - (h + 0)) = omega arith in
-    ap (λ j. of (Ok tt) (blank_cells n j)) none ∙ ap (λ l. of (Ok tt) (with_head n l h)) (ap zeros all ∙ sym (replicate-append-replicate h (n - (h + 0)) 0))
+    let all : n ≡ h + (n - h) = omega arith in
+    let cells : zeros n ≡ zeros h ++ zeros (n - h) = ap zeros all ∙ sym (replicate-append-replicate h (n - h) 0) in
+    rw none (ap (λ l. of (Ok tt) (with_head n l h)) cells)
 word_laid n h (c ∷ cs) fits codes =
+    let behind : List ℕ = cs ++ zeros (n - (h + 1 + length cs)) in
     let same : h + suc (length cs) ≡ h + 1 + length cs = omega arith in
-    let each = both (leb c 36) (all_codes cs) codes in
-    ap (λ j. laid (c ∷ cs) (blank_cells n j)) same ∙ ap (λ r. and_then r.answer r.tape (lay_one c)) (word_laid n (h + 1) cs (omega arith) each.1)
-    ∙ one_before n h c cs (omega arith) (leb-true c 36 each.0)
+    let code : c ≤ 36 = grind (arith, nat_tests) in
+    let others : all_codes cs ≡ true = grind (arith, nat_tests) in
+    let on : laid cs (blank_cells n (h + 1 + length cs)) ≡ of (Ok tt) (word_cells n (h + 1) cs) = word_laid n (h + 1) cs (omega arith) others in
+    rw (same, on, one_more h behind) (into_blank n h c (zeros h) behind (length-replicate h 0) (omega (arith, length-append {A = ℕ}, length-replicate {A = ℕ})) code)
+
+-- a word that was read, laid on the console's tape
+pub word_on : (w : Word) → laid (codes_in w) (blank_cells 256 (128 + length (codes_in w))) ≡ of (Ok tt) (word_cells 256 128 (codes_in w))
+word_on w =
+    let short = w.codes.within in
+    let most = length-take w.codes.count w.codes.items in
+    word_laid 256 128 (codes_in w) (omega arith) w.cells

@@ -1,11 +1,12 @@
 -- The word of an input: 0 to 80 cells, each a letter or `_` for blank.
-use Rattle.std.specs.Prelude.{ℕ, cond, List, [], ◌∷◌, length, take, Some, None, Option, nat_le}
+use Rattle.std.specs.Prelude.{ℕ, cond, List, [], ◌∷◌, length, Some, None, Option, nat_le}
+use Rattle.bounded.specs.Inline.{items_of}
 use Rattle.tape.specs.Symbols.{cell_code}
 use Rattle.transcript.specs.declared.word.Word.{Word}
 
 -- the codes that a word holds
 abbrev pub codes_in : Word → List ℕ
-codes_in w = take w.length w.codes
+codes_in w = items_of w.codes
 
 -- one code before others, if all are codes
 abbrev pub before : Option ℕ → Option (List ℕ) → Option (List ℕ)

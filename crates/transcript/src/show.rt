@@ -19,6 +19,7 @@ const SIZE: usize = 256;
 const FIRST_CELL: usize = 128;
 
 // Lays a word onto a blank tape, and shows it.
+#[tactic(auto, using(crate::proofs::Laying::word_on))]
 fn lay_and_display<T: Tape>(tape: &mut T, word: &Word) -> [u8; WIDTH]
     requires { T.Tape.meaning tape.old ≡ blank_cells 256 (128 + length (codes_in word.now)) }
     ensures { result ≡ displayed (word_cells 256 128 (codes_in word.now)) }

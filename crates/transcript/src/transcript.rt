@@ -1,5 +1,6 @@
-ghost use Rattle.std.specs.Prelude.{◌≡◌, ℕ, ◌+◌, ◌≤◌, List, ◌++◌, length};
-ghost use Rattle.transcript.specs.Page.{begun, print_answer, print_after};
+ghost use Rattle.std.specs.Prelude.{◌≡◌, ◌+◌, ◌≤◌, ◌++◌, length};
+ghost use Rattle.bounded.specs.Inline.{items_of};
+ghost use Rattle.transcript.specs.Page.{print_answer, print_after};
 ghost use Rattle.transcript.specs.Transcript.{tape_line, word_lines, transcript_of};
 ghost use Rattle.transcript.specs.Word.{codes_in};
 
@@ -8,6 +9,7 @@ use crate::page::{TooShort, append, print};
 use crate::show::{dense_display, sparse_display};
 use crate::source::{bytes_fault_of, print_fault};
 use crate::word::Word;
+use bounded::inline::InlineList;
 
 // How long a transcript may be.
 pub const LONGEST: usize = 45;
@@ -22,31 +24,28 @@ pub fn transcript(input: &[u8], output: &mut [u8]) -> Result<usize, TooShort>
         return print_fault(fault, output);
     }
     match Word::read(word_text(input)) {
-        Some(word) => print(&lines_of(&word), output),
+        Some(word) => print(lines_of(&word).as_slice(), output),
         None => print(b"bad word\n", output),
     }
 }
 
 // A line for each implementation of the tape.
-fn lines_of(word: &Word) -> [u8; LONGEST]
-    ensures { result ≡ word_lines (codes_in word.now) }
+fn lines_of(word: &Word) -> InlineList<u8, LONGEST>
+    ensures { items_of result ≡ word_lines (codes_in word.now) }
 {
-    let mut lines = [0; LONGEST];
-    let dense = dense_display(word);
-    let sparse = sparse_display(word);
-    let at = append_line(&mut lines, 0, b"dense", &dense);
-    let _ = append_line(&mut lines, at, b"sparse", &sparse);
+    let mut lines = InlineList::new(0);
+    append_line(&mut lines, b"dense", &dense_display(word));
+    append_line(&mut lines, b"sparse", &sparse_display(word));
     lines
 }
 
-// Writes a tape's line behind a text that stands at the front already, and answers where it ends.
-fn append_line(buffer: &mut [u8], at: usize, name: &[u8], shown: &[u8]) -> usize
-    requires { at + length (tape_line name.now shown.now) ≤ length buffer.old }
-    ensures end { result ≡ at + length (tape_line name.now shown.now) }
-    ensures after { (text buffer' : List ℕ) → buffer.old ≡ begun text buffer' → at ≡ length text → buffer.new ≡ begun (text ++ tape_line name.now shown.now) buffer' }
+// Writes a tape's line behind a text that has room for it.
+fn append_line<const N: usize>(text: &mut InlineList<u8, N>, name: &[u8], shown: &[u8])
+    requires { length (items_of text.old) + length (tape_line name.now shown.now) ≤ N }
+    ensures { items_of text.new ≡ items_of text.old ++ tape_line name.now shown.now }
 {
-    let at = append(buffer, at, name);
-    let at = append(buffer, at, b" ");
-    let at = append(buffer, at, shown);
-    append(buffer, at, b"\n")
+    append(text, name);
+    append(text, b" ");
+    append(text, shown);
+    append(text, b"\n");
 }

@@ -1,6 +1,9 @@
 // The word of an input.
-ghost use Rattle.std.specs.Prelude.{◌≡◌, ◌≤◌, true, take};
+ghost use Rattle.std.specs.Prelude.{◌≡◌, true};
+ghost use Rattle.bounded.specs.Inline.{items_of};
 ghost use Rattle.tape.specs.Meaning.{all_codes};
+
+use bounded::inline::InlineList;
 
 pub mod operations;
 
@@ -10,8 +13,6 @@ pub const LONGEST_WORD: usize = 80;
 // A word that was read: the symbol codes of its cells.
 #[derive(Clone, Copy, Drop)]
 pub struct Word {
-    codes: [u8; LONGEST_WORD],
-    length: usize,
-    ghost short: { length ≤ 80 },
-    ghost cells: { all_codes (take length codes) ≡ true },
+    codes: InlineList<u8, LONGEST_WORD>,
+    ghost cells: { all_codes (items_of codes) ≡ true },
 }

@@ -2,7 +2,8 @@ ghost use Rattle.std.specs.Prelude.{◌≡◌, ◌≤◌, length};
 ghost use Rattle.std.specs.Option.{option_map};
 ghost use Rattle.transcript.specs.Word.{codes_in, read_word};
 
-use crate::word::{LONGEST_WORD, Word};
+use crate::word::Word;
+use bounded::inline::InlineList;
 use tape::symbol::{BLANK, cell_code_of};
 
 impl Word {
@@ -10,17 +11,11 @@ impl Word {
     pub fn read(text: &[u8]) -> Option<Word>
         ensures { option_map codes_in result ≡ read_word text.now }
     {
-        if text.len() > LONGEST_WORD {
-            return None;
+        let mut codes = InlineList::new(BLANK);
+        for byte in text {
+            codes.push(cell_code_of(*byte)?).ok()?;
         }
-        let mut codes = [BLANK; LONGEST_WORD];
-        for (i, byte) in text.iter().enumerate() {
-            codes[i] = cell_code_of(*byte)?;
-        }
-        Some(Word {
-            codes,
-            length: text.len(),
-        })
+        Some(Word { codes })
     }
 
     // The codes of its cells.
@@ -28,6 +23,6 @@ impl Word {
         ensures codes { result.now ≡ codes_in self.now }
         ensures short { length result.now ≤ 80 }
     {
-        &self.codes[0..self.length]
+        self.codes.as_slice()
     }
 }

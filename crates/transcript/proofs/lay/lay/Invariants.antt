@@ -1,7 +1,12 @@
-use Rattle.std.proofs.Common.{◌≡◌, drop, Ok}
+use Rattle.std.proofs.Common.{◌≡◌}
+use Rattle.std.specs.Iterator.Adapters.{rev_source}
+use Rattle.std.specs.Slice.Iter.{iter_rest}
 use Rattle.transcript.specs.Lay.{laid}
-use Rattle.transcript.proofs.Laying.{of}
 use Rattle.transcript.proofs.lay.lay.Given as goal
 
-abbrev pub invariant-loop-i : goal.invariant-loop-i
-invariant-loop-i g l = (laid (drop l.i l.codes) (g.T.Tape.meaning l.initial.tape) ≡ of (Ok tt) (g.T.Tape.meaning l.tape)) × (g.T.Tape.lent l.tape ≡ g.T.Tape.lent l.initial.tape)
+-- what is left, laid on the tape as it is, is all of it laid on the tape as it was
+abbrev pub invariant-loop-code : goal.invariant-loop-code
+invariant-loop-code g l = record {
+  rest : laid (iter_rest (rev_source l.code-iterator)) (g.T.Tape.meaning l.tape) ≡ laid l.codes (g.T.Tape.meaning l.initial.tape);
+  lent : g.T.Tape.lent l.tape ≡ g.T.Tape.lent l.initial.tape;
+}

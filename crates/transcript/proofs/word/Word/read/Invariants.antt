@@ -1,6 +1,6 @@
-use Rattle.std.proofs.Common.{◌≡◌, ◌≤◌, length, take, Some}
-use Rattle.transcript.specs.Word.{codes_of}
+use Rattle.bounded.specs.Inline.{items_of}
+use Rattle.transcript.proofs.Words.{ReadTo}
 use Rattle.transcript.proofs.word.Word.read.Given as goal
 
-abbrev pub invariant-loop-i : goal.invariant-loop-i
-invariant-loop-i l = (length l.codes ≡ 80) × ((l.i ≤ length l.text) × (codes_of (take l.i l.text) ≡ Some (take l.i l.codes)))
+abbrev pub invariant-loop-byte : goal.invariant-loop-byte
+invariant-loop-byte l = ReadTo l.text (items_of l.codes) l.byte-index
