@@ -1,3 +1,5 @@
 pub mod Rows
+pub mod Settled
+pub mod Stored
 pub mod Lists
 pub mod Violations

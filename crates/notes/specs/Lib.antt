@@ -1,3 +1,4 @@
 pub mod Kinds
 pub mod Switches
 pub mod Noted
+pub mod Settled

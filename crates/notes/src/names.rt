@@ -1,8 +1,8 @@
-// The names of modules and gotos.
+// The names of modules and gotos. A name and modules come as two arguments, since a name is asked about and is no part of the modules.
 ghost use Rattle.std.specs.Prelude.{◌≡◌, [], ◌∷◌};
 ghost use Rattle.words.specs.Vocabulary.{ACCEPT, REJECT};
 ghost use Rattle.meaning.specs.Faults.{named};
-ghost use Rattle.draft.specs.Draft.{names_of};
+ghost use Rattle.draft.specs.Draft.{names_of, first_number};
 ghost use Rattle.notes.specs.Kinds.{entries_of};
 
 use crate::kinds::Module;
@@ -26,4 +26,12 @@ pub(crate) fn is_taken(name: &[u8], modules: &[Module]) -> bool
     ensures { result ≡ named name.now (ACCEPT ∷ REJECT ∷ names_of (entries_of modules.now)) }
 {
     is_reserved(name) || is_module(name, modules)
+}
+
+// The number of the first block of the module with this name, or 0 where there is none.
+pub(crate) fn first_number(name: &[u8], modules: &[Module]) -> u32
+    ensures { result ≡ first_number (entries_of modules.now) name.now }
+{
+    let named = modules.iter().find(|module| name == module.name.text);
+    named.map_or(0, |module| module.first)
 }

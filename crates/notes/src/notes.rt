@@ -11,11 +11,13 @@ use program::blocks::{Arm, Basic};
 use words::Word;
 
 pub mod blocks;
+pub mod building;
 pub mod cases;
 pub mod letters;
 pub mod names;
 pub mod operations;
 pub mod rows;
+pub mod settling;
 
 // A numbered block: a basic block, or a switch with its arms. Both are type parameters, since the checker proves nothing of
 // an enum with a lifetime over a struct with a ghost field, as `InlineList` is.

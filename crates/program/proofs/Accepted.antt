@@ -1,24 +1,26 @@
--- A program without violations is in range.
-use Rattle.std.proofs.Common.{◌≡◌, ℕ, suc, ◌+◌, ◌<◌, Bool, true, false, cond, not, ◌&&◌, ◌||◌, leb, List, [], ◌∷◌, ◌++◌, map, length, Some, None, Option, sym, refl, ap, ◌∙◌, arith, length-append}
+-- A program without violations is in range, and its letters are those of an alphabet.
+use Rattle.std.proofs.Common.{◌≡◌, ℕ, suc, ◌+◌, ◌<◌, ◌≤◌, Bool, true, false, cond, not, ◌&&◌, ◌||◌, leb, List, [], ◌∷◌, ◌++◌, map, length, Some, None, Option, sym, refl, ap, ◌∙◌, arith, length-append}
 use mathlib.Core.Option.{none, some}
 use Rattle.std.proofs.lemmas.Bool.{and_from, lt-ltb, le-leb, not-false, false≢true}
+use Rattle.tape.specs.Meaning.{all_codes}
 use Rattle.words.specs.Bytes.{Text}
 use Rattle.words.specs.Vocabulary.{same}
-use Rattle.grammar.specs.Tree.{Body, act_cases, acts_flow, Case, if, while, Cases, no_more, more, Inside, cases, body, Module, module', program}
+use Rattle.grammar.specs.Tree.{Body, act_cases, acts_flow, Case, if, while, Cases, no_more, more, Inside, cases, body, Module, module', Program, program}
 use Rattle.grammar.specs.Render.{acts_words, symbols_words, case_words, module_words}
 use Rattle.meaning.specs.declared.faults.Cause.TheVariants.{Letter, Repeated, Missing}
 use Rattle.meaning.specs.Codes.{member, different, columns}
-use Rattle.meaning.specs.Blocks.{Part, parts, Then, again, accepting, rejecting, jump, next, end, Basic, Kind, basic, switch, Block, some_case, case_basic, case_codes, lead, part_length, part_blocks, later_part_blocks, rest_blocks, case_blocks, cases_blocks, switch_blocks, arms, inside_blocks, modules_blocks, modules_at, alphabet, drafts, start_in, start, settled_then, settled_basic, settled_arms, settled_kind, settled, blocks, kinds}
+use Rattle.meaning.specs.Blocks.{Part, parts, Then, again, accepting, rejecting, jump, next, end, Basic, Kind, basic, switch, Block, some_case, case_basic, case_codes, lead, part_length, part_blocks, later_part_blocks, rest_blocks, case_blocks, cases_blocks, switch_blocks, arms, inside_blocks, modules_blocks, modules_at, alphabet, drafts, start_in, start, settled_then, settled_basic, settled_arms, settled_kind, settled, blocks, kinds, compiled}
 use Rattle.meaning.specs.Rules.{block_rows}
-use Rattle.meaning.specs.Faults.{flag, Known, named, alphabet_faults, names_faults, acts_faults, indexed, switch_symbols, symbol_faults, codes_of, covered, switch_faults, body_faults, case_faults, cases_faults, inside_faults, modules_faults, too_many, limit_faults, module_names, known}
+use Rattle.meaning.specs.Faults.{flag, Known, named, alphabet_faults, names_faults, acts_faults, indexed, switch_symbols, symbol_faults, codes_of, covered, switch_faults, body_faults, case_faults, cases_faults, inside_faults, modules_faults, too_many, limit_faults, module_names, known, faults}
 use Rattle.meaning.specs.Tables.{Each}
 use Rattle.meaning.proofs.Agree.{rows_length, settled_length, kinds_length}
 use Rattle.meaning.proofs.Clean.{Unseen}
 use Rattle.meaning.proofs.Ranges.{nil_parts, no_flag, each-++, fewer, not_there, WriteWithin, ThenWithin, BasicWithin, KindWithin, BlockWithin, modules_within, modules_some, translates_within}
+use Rattle.alphabet.specs.Columns.{letters_fit}
 use Rattle.program.specs.Store.{all_among, write_fits, then_fits, basic_fits}
 use Rattle.program.specs.Arms.{arms_fit, switch_fits}
 use Rattle.program.specs.Ranges.{arm_codes}
-use Rattle.program.specs.InRange.{kind_fits, blocks_fit}
+use Rattle.program.specs.InRange.{kind_fits, blocks_fit, in_range}
 use Rattle.program.specs.Laws.{AcceptedFit}
 use Rattle.program.proofs.Whole.{fewer_among}
 
@@ -202,3 +204,17 @@ accepted_fit (program ss m ms) e =
     all_settled cols ns w.differ (start t) n (λ x h. let z = start_below (m ∷ ms) i 0 x h in omega arith) bs (modules_within cols ns (m ∷ ms) i 0 n i f₂.1 (omega arith)) (modules_whole cols ns w.differ (m ∷ ms) i 0 i f₂.1) in
     ap (λ c. leb 1 c && (not (too_many c (length cols)) && blocks_fit cols c (kinds (blocks t)))) many
     ∙ and_from (leb 1 n) (not (too_many n (length cols)) && blocks_fit cols n (kinds (blocks t))) (le-leb 1 n (modules_some m ms i 0)) (and_from (not (too_many n (length cols))) (blocks_fit cols n (kinds (blocks t))) (ap not few) fit)
+
+codes_fit : (cs : List ℕ) → Each (λ c. c ≤ 36) cs → all_codes cs ≡ true
+codes_fit [] h = refl
+codes_fit (c ∷ cs) h = and_from (leb c 36) (all_codes cs) (le-leb c 36 h.0) (codes_fit cs h.1)
+
+-- such a program can be put together: of its letters an alphabet can be made, and it is in range
+pub accepted_letters : (t : Program) → faults t ≡ [] → letters_fit (alphabet t) ≡ true
+accepted_letters t e =
+    let w = translates_within t e in
+    let cs = alphabet t in
+    and_from (leb 1 (length cs)) (all_codes cs && different (columns cs)) (le-leb 1 (length cs) w.lettered) (and_from (all_codes cs) (different (columns cs)) (codes_fit cs w.codes) w.differ)
+
+pub accepted_whole : (t : Program) → faults t ≡ [] → letters_fit (alphabet t) && in_range (compiled t) ≡ true
+accepted_whole t e = and_from (letters_fit (alphabet t)) (in_range (compiled t)) (accepted_letters t e) (accepted_fit t e)

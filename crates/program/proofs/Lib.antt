@@ -8,3 +8,4 @@ pub mod Pushed
 pub mod Found
 pub mod Filled
 pub mod Accepted
+pub mod Taken

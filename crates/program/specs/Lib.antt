@@ -6,5 +6,6 @@ pub mod Ranges
 pub mod InRange
 pub mod Stored
 pub mod Built
+pub mod Taken
 pub mod Laws
 pub mod Sound
