@@ -1,4 +1,10 @@
-//! From the words of a source to what is noted of its program, in one pass.
+//! From a source to the program that it is, or to its fault, in one pass.
 #![tactic(auto)]
 
 mod parser;
+mod source;
+
+pub use source::{LONGEST_SOURCE, compile, readable};
+
+#[cfg(test)]
+mod tests;

@@ -9,6 +9,7 @@ pub mod commands;
 pub mod descent;
 pub mod lexemes;
 pub mod modules;
+pub mod reading;
 
 // Reads a source from word to word.
 #[derive(Drop)]

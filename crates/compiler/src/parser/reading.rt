@@ -1,0 +1,46 @@
+// The reading of a whole source.
+ghost use Rattle.std.specs.Prelude.{◌≡◌};
+ghost use Rattle.bounded.specs.Held.{held};
+ghost use Rattle.words.specs.Words.{words};
+ghost use Rattle.events.specs.Notes.{no_notes};
+ghost use Rattle.notes.specs.Noted.{notes_of};
+ghost use Rattle.compiler.specs.Reading.{source_of, rest};
+ghost use Rattle.compiler.specs.Compiling.{Begins, ReadAs};
+
+use super::{Lexer, Parser};
+use bounded::list::BoundedList;
+use meaning::faults::Fault;
+use notes::kinds::Module;
+use notes::notes::Notes;
+use program::program::Program;
+use words::Word;
+
+impl<'a, 'n, 'm> Parser<'a, 'n, 'm> {
+    // Before the first word of a source.
+    pub(crate) fn new(
+        source: &'a [u8],
+        modules: &'n mut BoundedList<'m, Module<'a>>,
+        gotos: &'n mut BoundedList<'m, Word<'a>>,
+    ) -> Parser<'a, 'n, 'm>
+        ensures source { source_of result.lexer ≡ source.now }
+        ensures rest { rest result.lexer ≡ words source.now }
+        ensures notes { notes_of result.notes ≡ no_notes (held modules.old).capacity (held gotos.old).capacity }
+    {
+        Parser {
+            lexer: Lexer::new(source),
+            notes: Notes::new(modules, gotos),
+        }
+    }
+
+    // The program of a source that breaks no rule.
+    pub(crate) fn read(&mut self) -> Result<Program, Fault>
+        requires { Begins self.now }
+        ensures { ReadAs result (source_of self.old.lexer) }
+    {
+        self.program()?;
+        match self.notes.tell() {
+            Some(fault) => Err(fault),
+            None => Ok(self.notes.program().unwrap()),
+        }
+    }
+}
