@@ -7,11 +7,11 @@ ghost use Rattle.transcript.specs.Source.{bytes_fault, fault_line};
 
 use crate::page::{TooShort, append, append_decimal, print};
 use bounded::inline::InlineList;
-use meaning::faults::{Cause, Fault};
-use words::first_foreign;
+use compiler::readable;
+use meaning::faults::Fault;
 
 // How long a source may be.
-pub const LONGEST_SOURCE: usize = 60_000;
+pub use compiler::LONGEST_SOURCE;
 
 // How long a fault's line may be.
 const LONGEST_LINE: usize = 36;
@@ -21,16 +21,7 @@ pub fn bytes_fault_of(source: &[u8]) -> Option<Fault>
     ensures fault { result ≡ bytes_fault source.now }
     ensures told { (f : Told) → result ≡ Some f → outcome source.now ≡ Err f }
 {
-    if source.len() > LONGEST_SOURCE {
-        return Some(Fault {
-            cause: Cause::Length,
-            place: LONGEST_SOURCE,
-        });
-    }
-    first_foreign(source).map(|place| Fault {
-        cause: Cause::Byte,
-        place,
-    })
+    readable(source).err()
 }
 
 // Writes the line that tells a fault into a buffer, and answers its length.
