@@ -38,5 +38,5 @@ module _ (c d : Parser) where
     pub faulty : (f : Fault) → Ends {A = Unit {0}} (Err f) start c d → outcome source ≡ Err f
     faulty f e = tells (fault f.cause f.place) e
 
-    pub noted : Ends {A = Unit {0}} (Ok tt) start c d → Noted source (notes_of d.notes)
+    pub noted : Ends {A = Unit {0}} (Ok tt) start c d → Noted source (notes_of d.source.now d.notes)
     noted e = tells (made (state d [])) e

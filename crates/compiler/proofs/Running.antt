@@ -9,6 +9,7 @@ use Rattle.events.specs.Descent.{Stack, edges, push, top, below, follow, pick, r
 use Rattle.events.specs.Notes.{State, apply}
 use Rattle.compiler.specs.declared.parser.Lexer.{Lexer}
 use Rattle.compiler.specs.Reading.{source_of, rest, running, Came}
+use Rattle.compiler.proofs.Stretches.{first_stretch}
 
 -- a word decides on what is awaited
 taken : (c d : Lexer) (w : Word) → rest c ≡ w ∷ rest d → source_of c ≡ source_of d
@@ -28,5 +29,5 @@ pub came : (r : Option Given) (c d : Lexer) → c.reader.source ≡ d.reader.sou
 came (Some w) c d same e =
     let l = ap length e in
     let s = ap (λ x. x.now) same in
-    ((omega arith, s), (taken c d (word w) e s, omega arith))
+    ((omega arith, s), (taken c d (word w) e s, first_stretch c.reader (word w) (rest d) e, omega arith))
 came None c d same e = let x = ap length e.0 in let y = ap length e.1 in ((omega arith, ap (λ x. x.now) same), ended c e.0)

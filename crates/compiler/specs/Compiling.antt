@@ -36,7 +36,7 @@ ReadableOr (Err f) source = outcome source ≡ Err f
 pub record Begins (c : Parser) : Type 0 where
   pub readable : Readable (source_of c.lexer)
   pub first : rest c.lexer ≡ words (source_of c.lexer)
-  pub nothing : notes_of c.notes ≡ no_notes most_names most_gotos
+  pub nothing : notes_of c.source.now c.notes ≡ no_notes most_names most_gotos
 
 -- a source is that of this program, or it has this fault
 abbrev pub ReadAs : Result Stored Fault → Text → Type 0

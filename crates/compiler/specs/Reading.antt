@@ -1,5 +1,5 @@
 -- What the functions of the parser do: each reads what is awaited, and leaves the rest to whatever is awaited behind it.
-use Rattle.std.specs.Prelude.{◌≡◌, ℕ, suc, ◌-◌, ◌<◌, ◌≤◌, Bool, cond, List, [], ◌∷◌, length, Some, None, Ok, Err, Option, Result, nat_lt, option_map, MatchOption, MatchResult}
+use Rattle.std.specs.Prelude.{◌≡◌, ℕ, suc, ◌-◌, ◌<◌, ◌≤◌, Bool, cond, List, [], ◌∷◌, length, take, drop, Some, None, Ok, Err, Option, Result, nat_lt, option_map, MatchOption, MatchResult}
 use Rattle.tape.specs.declared.kinds.Direction.{Direction}
 use Rattle.words.specs.declared.token.Mark.{Mark}
 use Rattle.words.specs.declared.token.Mark.TheVariants.{Close}
@@ -18,6 +18,7 @@ use Rattle.events.specs.Event.{Event}
 use Rattle.events.specs.Descent.{Item, Edge, by_mark, edges, flow_edges, case_edges, pick, the_mark, a_letter, a_name, a_target, a_written, a_direction, a_symbol, symbols_end, once_end, body_end, cases_end, Stack, await, push, top, below, Outcome, made, fault, follow, is_key, is_symbol, is_name, run, ends}
 use Rattle.events.specs.Notes.{Open, State, noted_as, letter_noted, write_noted, symbol_read, name_noted, jump_noted, turn_noted, apply}
 use Rattle.program.specs.declared.blocks.Then.{Then}
+use Rattle.notes.specs.declared.kinds.Span.{Span}
 use Rattle.notes.specs.declared.switches.OpenSwitch.{OpenSwitch}
 use Rattle.compiler.specs.declared.parser.Lexer.{Lexer}
 use Rattle.compiler.specs.declared.parser.Parser.{Parser}
@@ -28,7 +29,7 @@ use Rattle.compiler.specs.declared.parser.Command.{Command}
 use Rattle.compiler.specs.declared.parser.Command.TheVariants.{Changeto, Move}
 use Rattle.compiler.specs.declared.parser.Head.{Head}
 use Rattle.compiler.specs.declared.parser.Head.TheVariants.{If, While}
-use Rattle.notes.specs.Kinds.{then_of}
+use Rattle.notes.specs.Kinds.{text_in, then_of}
 use Rattle.notes.specs.Switches.{switch_of}
 use Rattle.notes.specs.Noted.{notes_of}
 
@@ -54,10 +55,11 @@ running c k s = run apply (length (source_of c)) k s (rest c)
 abbrev pub along : List Edge → Given → State → (List Item → State → Outcome State) → Outcome State
 along es w s go = follow apply w.place (pick es (kind w.text.now) w.text.now) s go
 
--- the next word
+-- the next word, which is the stretch of the source at its place
 abbrev pub Taken : Given → Lexer → Lexer → Type 0
 Taken w c d =
     ((k : Stack) (s : State) → running c k s ≡ along (edges (top k)) w s (λ is t. running d (push is (below k)) t))
+    × (w.text.now ≡ take (length w.text.now) (drop w.place (source_of c)))
     × (length (rest d) < length (rest c))
 
 -- one word was taken, or the end comes too early
@@ -71,6 +73,10 @@ Came r c d = Onward c d × MatchOption r ((k : Stack) (s : State) → running c 
 -- the code of a word, if it is a symbol
 abbrev pub code_in : Text → Option ℕ
 code_in w = cond (is_symbol (kind w)) (Some (word_code w)) None
+
+-- the stretch of the source that a word is
+abbrev pub span_of : Given → Span
+span_of w = record { start = w.place; length = length w.text.now }
 
 -- the word is a name
 abbrev pub named : Text → Bool
@@ -96,11 +102,11 @@ pub record Symbols (r : Result Symbol Fault) (c d : Lexer) : Type 0 where
   pub written : Meets r a_written (λ x s. noted_as (write_noted x.code x.place s.notes) s) c d
   pub shown : Meets r a_symbol (λ x s. symbol_read x.code x.place s.switches s) c d
 
--- a name was read, and means this by what it is awaited for; or none
+-- a name was read, a stretch of the source, and means this by what it is awaited for; or none
 pub record Names (r : Result Given Fault) (c d : Lexer) : Type 0 where
   pub onward : Onward c d
-  pub named : Meets r a_name (λ n s. noted_as (name_noted n.text.now n.place s.notes) s) c d
-  pub target : Meets r a_target (λ n s. noted_as (jump_noted n.text.now n.place s.notes) s) c d
+  pub named : Meets r a_name (λ n s. noted_as (name_noted (text_in (source_of c) (span_of n)) n.place s.notes) s) c d
+  pub target : Meets r a_target (λ n s. noted_as (jump_noted (text_in (source_of c) (span_of n)) n.place s.notes) s) c d
 
 -- ---- Commands.
 
@@ -151,7 +157,7 @@ entering c case k s =
 
 -- what is noted, and the open switches
 abbrev pub state : Parser → List Open → State
-state c os = record { notes = notes_of c.notes; switches = os }
+state c os = record { notes = notes_of c.source.now c.notes; switches = os }
 
 -- what comes of the words that are left, from a stack and the open switches
 abbrev pub Ending : Type 0
@@ -191,11 +197,11 @@ abbrev pub target_end : List Item
 target_end = a_target ∷ the_mark Close event.quiet ∷ []
 
 -- a basic block was finished, and the brace behind it was read; the place of a finish says nothing
-abbrev pub Finishes : {A : Type 0} → Result A Fault → Then Given → Parser → Parser → Type 0
+abbrev pub Finishes : {A : Type 0} → Result A Fault → Then Span → Parser → Parser → Type 0
 Finishes r t c d =
     Onward c.lexer d.lexer
     × Answers r
-    (λ k os. running c.lexer (await (the_mark Close event.quiet) k) (apply (event.finish (then_of t)) 0 (state c os)))
+    (λ k os. running c.lexer (await (the_mark Close event.quiet) k) (apply (event.finish (then_of c.source.now t)) 0 (state c os)))
     (awaiting [] d)
 
 -- a case in an open switch, whose first word is taken

@@ -1,5 +1,5 @@
 // The parser: a recursive descent through the words of a source, which notes what it reads.
-ghost use Rattle.std.specs.Prelude.{◌≤◌};
+ghost use Rattle.std.specs.Prelude.{◌≡◌, ◌≤◌};
 
 use notes::notes::Notes;
 use words::Reader;
@@ -17,11 +17,14 @@ pub struct Lexer<'a> {
     reader: Reader<'a>,
 }
 
-// Reads a source, and notes what it reads.
+// Reads a source, and notes what it reads. Notes hold names as stretches of the source, which stands beside the lexer: no call on the lexer
+// changes it, so what is noted means the same before such a call and after.
 #[derive(Drop)]
 pub struct Parser<'a, 'n, 'm> {
+    source: &'a [u8],
     lexer: Lexer<'a>,
-    notes: Notes<'n, 'm, 'a>,
+    notes: Notes<'n, 'm>,
+    ghost same: { source.now ≡ lexer.reader.source.now },
 }
 
 // What a command does: it writes a symbol, or moves the head. Its number is its rank.

@@ -9,9 +9,9 @@ ghost use Rattle.compiler.specs.Compiling.{bytes_judged, ReadableOr, ReadAs, Com
 use crate::parser::Parser;
 use bounded::list::BoundedList;
 use meaning::faults::{Cause, Fault};
-use notes::kinds::Module;
+use notes::kinds::{Module, Span};
 use program::program::Program;
-use words::{Word, first_foreign};
+use words::first_foreign;
 
 // How long a source may be.
 pub const LONGEST_SOURCE: usize = 60_000;
@@ -42,10 +42,10 @@ pub fn readable(source: &[u8]) -> Result<(), Fault>
 }
 
 // The program of a source, by way of lists with room for all names and gotos.
-fn read_in<'a, 'n, 'm>(
-    source: &'a [u8],
-    modules: &'n mut BoundedList<'m, Module<'a>>,
-    gotos: &'n mut BoundedList<'m, Word<'a>>,
+fn read_in<'n, 'm>(
+    source: &[u8],
+    modules: &'n mut BoundedList<'m, Module>,
+    gotos: &'n mut BoundedList<'m, Span>,
 ) -> Result<Program, Fault>
     requires modules { (held modules.now).capacity ≡ most_names }
     requires gotos { (held gotos.now).capacity ≡ most_gotos }
@@ -55,19 +55,16 @@ fn read_in<'a, 'n, 'm>(
     Parser::new(source, modules, gotos).read()
 }
 
-// The program of a source. The lists are memory of this call: 3,749 modules of 32 bytes and 5,000 gotos of 24, 239,968 bytes.
-fn read<'a>(source: &'a [u8]) -> Result<Program, Fault>
+// The program of a source. The lists are memory of this call: 3,749 modules of 24 bytes and 5,000 gotos of 16, 169,976 bytes.
+fn read(source: &[u8]) -> Result<Program, Fault>
     ensures { ReadAs result source.now }
 {
-    let word: Word<'a> = Word {
-        text: source,
-        place: 0,
+    let name = Span {
+        start: 0,
+        length: 0,
     };
-    let mut modules: [Module<'a>; MOST_MODULES] = [Module {
-        name: word,
-        first: 0,
-    }; MOST_MODULES];
-    let mut gotos: [Word<'a>; MOST_GOTOS] = [word; MOST_GOTOS];
+    let mut modules = [Module { name, first: 0 }; MOST_MODULES];
+    let mut gotos = [name; MOST_GOTOS];
     let mut modules = BoundedList::new(&mut modules);
     let mut gotos = BoundedList::new(&mut gotos);
     read_in(source, &mut modules, &mut gotos)

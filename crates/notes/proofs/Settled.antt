@@ -11,7 +11,7 @@ use Rattle.program.specs.Arms.{codes_of, arms_in}
 use Rattle.program.specs.Built.{with_block, takes_switch}
 use Rattle.program.specs.Taken.{takes_block, takes_blocks, with_blocks}
 use Rattle.program.proofs.Taken.{codes_kept, one_then}
-use Rattle.words.specs.declared.word.Word.{Word}
+use Rattle.notes.specs.declared.kinds.Span.{Span}
 use Rattle.notes.specs.declared.kinds.Module.{Module}
 use Rattle.notes.specs.Noted.{Block}
 use Rattle.notes.specs.Settled.{kinds_settled}
@@ -59,5 +59,5 @@ block_taken p q k ks told e =
     (ap (λ x. takes_blocks x ks) new ∙ sym (ap (λ b. b && takes_blocks (with_block p k) ks) taken), ap (λ x. with_blocks x ks) new ∙ one_then p k ks)
 
 -- the same blocks and modules
-pub same_settled : {ms ns : List Module} {xs ys : List (Block Word)} → ms ≡ ns → xs ≡ ys → kinds_settled ms xs ≡ kinds_settled ns ys
-same_settled {ns = ns} {xs = xs} e f = ap (λ l. kinds_settled l xs) e ∙ ap (kinds_settled ns) f
+pub same_settled : (source : Text) {ms ns : List Module} {xs ys : List (Block Span)} → ms ≡ ns → xs ≡ ys → kinds_settled source ms xs ≡ kinds_settled source ns ys
+same_settled source {ns = ns} {xs = xs} e f = ap (λ l. kinds_settled source l xs) e ∙ ap (kinds_settled source ns) f

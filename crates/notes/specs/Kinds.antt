@@ -1,8 +1,7 @@
 -- What the parts of notes mean.
-use Rattle.std.specs.Prelude.{ℕ, Bool, false, List, map, Some, None, Option, nat_lt, option_map}
+use Rattle.std.specs.Prelude.{ℕ, Bool, false, List, map, take, drop, Some, None, Option, nat_lt, option_map}
 use Rattle.bounded.specs.declared.inline.InlineList.{InlineList}
 use Rattle.bounded.specs.Inline.{items_of}
-use Rattle.words.specs.declared.word.Word.{Word}
 use Rattle.words.specs.Bytes.{Text}
 use Rattle.meaning.specs.declared.faults.Fault.{Fault}
 use Rattle.meaning.specs.Blocks as meant
@@ -12,34 +11,35 @@ use Rattle.draft.specs.Draft.{Entry, Pending}
 use Rattle.draft.specs.Building as built
 use Rattle.program.specs.declared.blocks.Then.{Then}
 use Rattle.program.specs.Store.{then_as}
+use Rattle.notes.specs.declared.kinds.Span.{Span}
 use Rattle.notes.specs.declared.kinds.Module.{Module}
 use Rattle.notes.specs.declared.kinds.Owner.{Owner}
 use Rattle.notes.specs.declared.kinds.Owner.TheVariants.{Numbered, Arms}
 use Rattle.notes.specs.declared.kinds.Current.{Current}
 
+-- the text of a stretch
+abbrev pub text_in : Text → Span → Text
+text_in source s = take s.length (drop s.start source)
+
 -- a module
-abbrev pub entry_of : Module → Entry
-entry_of m = record { name = m.name.text.now; first = m.first }
+abbrev pub entry_of : Text → Module → Entry
+entry_of source m = record { name = text_in source m.name; first = m.first }
 
 -- modules
-abbrev pub entries_of : List Module → List Entry
-entries_of = map entry_of
+abbrev pub entries_of : Text → List Module → List Entry
+entries_of source = map (entry_of source)
 
 -- a goto
-abbrev pub pending_of : Word → Pending
-pending_of w = record { name = w.text.now; index = w.place }
+abbrev pub pending_of : Text → Span → Pending
+pending_of source s = record { name = text_in source s; index = s.start }
 
 -- gotos
-abbrev pub pendings_of : List Word → List Pending
-pendings_of = map pending_of
-
--- what a goto leads to, as it is written
-abbrev pub name_of : Word → Text
-name_of w = w.text.now
+abbrev pub pendings_of : Text → List Span → List Pending
+pendings_of source = map (pending_of source)
 
 -- what comes after a basic block
-abbrev pub then_of : Then Word → meant.Then Text
-then_of = then_as name_of
+abbrev pub then_of : Text → Then Span → meant.Then Text
+then_of source = then_as (text_in source)
 
 -- the symbols of a case
 abbrev pub codes_of : InlineList ℕ 37 → List ℕ

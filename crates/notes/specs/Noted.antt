@@ -1,9 +1,8 @@
--- What notes mean.
+-- What notes mean, for a source.
 use Rattle.std.specs.Prelude.{ℕ, not, List, ◌∷◌, map, Option}
 use Rattle.bounded.specs.Held.{held}
 use Rattle.bounded.specs.declared.inline.InlineList.{InlineList}
 use Rattle.bounded.specs.Inline.{items_of}
-use Rattle.words.specs.declared.word.Word.{Word}
 use Rattle.words.specs.Bytes.{Text}
 use Rattle.words.specs.Vocabulary.{ACCEPT, REJECT}
 use Rattle.meaning.specs.declared.faults.Cause.TheVariants.{ModuleName, Goto}
@@ -15,10 +14,11 @@ use Rattle.events.specs.Notes.{Notes as Meaning, flagged, with_arms}
 use Rattle.program.specs.declared.blocks.Basic.{Basic}
 use Rattle.program.specs.declared.blocks.Arm.{Arm}
 use Rattle.program.specs.Store.{basic_as, arms_as}
+use Rattle.notes.specs.declared.kinds.Span.{Span}
 use Rattle.notes.specs.declared.notes.Row.{Row}
 use Rattle.notes.specs.declared.notes.Row.TheVariants.{Single, Switch}
 use Rattle.notes.specs.declared.notes.Notes.{Notes}
-use Rattle.notes.specs.Kinds.{entries_of, pendings_of, name_of, current_of, violation_of}
+use Rattle.notes.specs.Kinds.{text_in, entries_of, pendings_of, current_of, violation_of}
 
 -- a numbered block, whose gotos lead to a G
 abbrev pub Block : Type 0 → Type 0
@@ -36,12 +36,12 @@ module _ {G H : Type 0} (target : G → H) where
   kinds_as = map kind_as
 
 -- what a numbered block is
-abbrev pub kind_of : Block Word → Kind Text
-kind_of = kind_as name_of
+abbrev pub kind_of : Text → Block Span → Kind Text
+kind_of source = kind_as (text_in source)
 
 -- blocks
-abbrev pub kinds_of : List (Block Word) → List (Kind Text)
-kinds_of = kinds_as name_of
+abbrev pub kinds_of : Text → List (Block Span) → List (Kind Text)
+kinds_of source = kinds_as (text_in source)
 
 -- a block in which the owner that stands in it has its basic block
 abbrev pub kind_filled : Owner → Meant Text → Kind Text → Kind Text
@@ -49,14 +49,14 @@ kind_filled (numbered q) b k = basic b
 kind_filled (arm_of q cs) b k = with_arms cs b k
 
 -- notes
-unfoldable pub notes_of : Notes → Meaning
-notes_of n = record {
+unfoldable pub notes_of : Text → Notes → Meaning
+notes_of source n = record {
   letters = items_of n.letters;
   width = n.width;
-  names = entries_of (held n.modules.now).before;
-  gotos = pendings_of (held n.gotos.now).before;
+  names = entries_of source (held n.modules.now).before;
+  gotos = pendings_of source (held n.gotos.now).before;
   count = n.count;
-  blocks = kinds_of (items_of n.rows);
+  blocks = kinds_of source (items_of n.rows);
   violation = violation_of n.violation;
   current = current_of n.current;
   name_room = (held n.modules.now).capacity;

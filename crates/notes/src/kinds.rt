@@ -4,7 +4,6 @@ ghost use Rattle.notes.specs.Kinds.{owner_of, number_of};
 use bounded::inline::InlineList;
 use program::blocks;
 use tape::kinds::Direction;
-use words::Word;
 
 // A symbol by its code, with its place.
 #[derive(Clone, Copy, Drop)]
@@ -13,15 +12,28 @@ pub struct Symbol {
     pub place: usize,
 }
 
+// A stretch of the source. Two numbers and no slice, so that a list of them may outlive the source, and serve the next one.
+#[derive(Clone, Copy, Drop)]
+pub struct Span {
+    pub start: usize,
+    pub length: usize,
+}
+
 // A module: its name, and the number of its first block.
 #[derive(Clone, Copy, Drop)]
-pub struct Module<'s> {
-    pub name: Word<'s>,
+pub struct Module {
+    pub name: Span,
     pub first: u32,
 }
 
 // What comes after a basic block, as the source says it: a goto leads to a name.
-pub type Then<'s> = blocks::Then<Word<'s>>;
+pub type Then = blocks::Then<Span>;
+
+// A basic block, as the source says it.
+pub type Basic = blocks::Basic<Span>;
+
+// A symbol of a switch, and the basic block that it leads to.
+pub type Arm = blocks::Arm<Span>;
 
 // How many symbols there are: the letters, and blank.
 pub const SYMBOLS: usize = 37;

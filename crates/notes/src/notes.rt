@@ -2,13 +2,12 @@ ghost use Rattle.std.specs.Prelude.{◌≡◌, ◌≤◌, [], length};
 ghost use Rattle.bounded.specs.Held.{held};
 ghost use Rattle.bounded.specs.Inline.{items_of};
 
-use crate::kinds::{Current, Module, SYMBOLS};
+use crate::kinds::{Current, Module, SYMBOLS, Span};
 use alphabet::letters::operations::MAX_LETTERS;
 use bounded::inline::InlineList;
 use bounded::list::BoundedList;
 use meaning::faults::Fault;
 use program::blocks::{Arm, Basic};
-use words::Word;
 
 pub mod blocks;
 pub mod building;
@@ -19,8 +18,7 @@ pub mod operations;
 pub mod rows;
 pub mod settling;
 
-// A numbered block: a basic block, or a switch with its arms. Both are type parameters, since the checker proves nothing of
-// an enum with a lifetime over a struct with a ghost field, as `InlineList` is.
+// A numbered block: a basic block, or a switch with its arms.
 #[derive(Clone, Copy, Drop)]
 pub enum Row<B, A> {
     Single(B),
@@ -36,16 +34,16 @@ pub type Blocks<G> = InlineList<Block<G>, 128>;
 // The letters of the alphabet; the modules and the gotos, in lists that are lent; the blocks within the limits; the lowest violation of a rule
 // so far; the basic block under construction.
 #[derive(Drop)]
-pub struct Notes<'n, 'm, 's> {
-    modules: &'n mut BoundedList<'m, Module<'s>>,
-    gotos: &'n mut BoundedList<'m, Word<'s>>,
+pub struct Notes<'n, 'm> {
+    modules: &'n mut BoundedList<'m, Module>,
+    gotos: &'n mut BoundedList<'m, Span>,
     letters: InlineList<u8, MAX_LETTERS>,
     // how many columns there are, with every letter counted
     width: u32,
     // how many blocks have begun
     count: u32,
     // those of them that are within the limits
-    rows: Blocks<Word<'s>>,
+    rows: Blocks<Span>,
     violation: Option<Fault>,
     current: Current,
     ghost module_end: { (held modules.now).after ≡ [] },

@@ -4,7 +4,7 @@ ghost use Rattle.events.specs.Event.{begin_switch, next_switch};
 ghost use Rattle.events.specs.Descent.{a_letter, letters_end, a_written, a_direction, a_symbol, symbols_end, once_end, move_end, body_end, acted_end, edges, flow_edges};
 ghost use Rattle.compiler.specs.Reading.{around, argument_of, Reads, ReadsIn, last_move, target_end, Finishes, Continues, ends_body, EndsSwitch, Switches, Enters};
 
-use super::lexemes::unexpected;
+use super::lexemes::{span_of, unexpected};
 use super::{Case, Command, Head, Parser, Room};
 use meaning::faults::{Cause, Fault};
 use notes::kinds::Then;
@@ -77,8 +77,8 @@ impl<'a, 'n, 'm> Parser<'a, 'n, 'm> {
     }
 
     // Finishes a basic block, with a verdict, and the brace behind it.
-    fn verdict(&mut self, then: Then<'a>) -> Result<(), Fault>
-        ensures { Finishes result then.entry self.old self.new }
+    fn verdict(&mut self, then: Then) -> Result<(), Fault>
+        ensures { Finishes result then self.old self.new }
     {
         self.notes.finish(then);
         self.lexer.mark(Mark::Close)?;
@@ -90,7 +90,7 @@ impl<'a, 'n, 'm> Parser<'a, 'n, 'm> {
         ensures { Reads result target_end self.old self.new }
     {
         let name = self.lexer.name()?;
-        self.notes.jump(name);
+        self.notes.jump(span_of(name));
         self.lexer.mark(Mark::Close)?;
         Ok(())
     }

@@ -1,11 +1,11 @@
 // One word, by what is awaited.
 ghost use Rattle.std.specs.Prelude.{◌≡◌};
 ghost use Rattle.words.specs.Words.{words};
-ghost use Rattle.compiler.specs.Reading.{source_of, rest, code_in, named, Came, Took, Marks, Symbols, Names, Directions};
+ghost use Rattle.compiler.specs.Reading.{source_of, rest, span_of, code_in, named, Came, Took, Marks, Symbols, Names, Directions};
 
 use super::Lexer;
 use meaning::faults::{Cause, Fault};
-use notes::kinds::Symbol;
+use notes::kinds::{Span, Symbol};
 use tape::kinds::Direction;
 use words::{Keyword, Mark, Reader, Token, Word};
 
@@ -31,6 +31,16 @@ fn is_name(word: Word) -> bool
     ensures { result ≡ named word.entry.text.now }
 {
     word.token().is_some_and(|token| token.as_name().is_some())
+}
+
+// The stretch of the source that a word is.
+pub(super) fn span_of(word: Word) -> Span
+    ensures { result ≡ span_of word.entry }
+{
+    Span {
+        start: word.place,
+        length: word.text.len(),
+    }
 }
 
 impl<'a> Lexer<'a> {

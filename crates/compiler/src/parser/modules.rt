@@ -3,7 +3,7 @@ ghost use Rattle.std.specs.Prelude.{[], ◌∷◌};
 ghost use Rattle.events.specs.Descent.{inside_end, a_module, an_alphabet, edges, modules, start};
 ghost use Rattle.compiler.specs.Reading.{Reads, Continues, Ends};
 
-use super::lexemes::unexpected;
+use super::lexemes::{span_of, unexpected};
 use super::{Case, Parser, Room};
 use meaning::faults::Fault;
 use words::{Keyword, Mark, Token, Word};
@@ -31,7 +31,7 @@ impl<'a, 'n, 'm> Parser<'a, 'n, 'm> {
         match word.token() {
             Some(Token::Keyword(Keyword::Module, _)) => {
                 let name = self.lexer.name()?;
-                self.notes.name(name);
+                self.notes.name(self.source, span_of(name));
                 self.lexer.mark(Mark::Open)?;
                 self.inside()
             }

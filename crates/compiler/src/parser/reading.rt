@@ -10,23 +10,23 @@ ghost use Rattle.compiler.specs.Compiling.{Begins, ReadAs};
 use super::{Lexer, Parser};
 use bounded::list::BoundedList;
 use meaning::faults::Fault;
-use notes::kinds::Module;
+use notes::kinds::{Module, Span};
 use notes::notes::Notes;
 use program::program::Program;
-use words::Word;
 
 impl<'a, 'n, 'm> Parser<'a, 'n, 'm> {
     // Before the first word of a source.
     pub(crate) fn new(
         source: &'a [u8],
-        modules: &'n mut BoundedList<'m, Module<'a>>,
-        gotos: &'n mut BoundedList<'m, Word<'a>>,
+        modules: &'n mut BoundedList<'m, Module>,
+        gotos: &'n mut BoundedList<'m, Span>,
     ) -> Parser<'a, 'n, 'm>
         ensures source { source_of result.lexer ≡ source.now }
         ensures rest { rest result.lexer ≡ words source.now }
-        ensures notes { notes_of result.notes ≡ no_notes (held modules.old).capacity (held gotos.old).capacity }
+        ensures notes { notes_of result.source.now result.notes ≡ no_notes (held modules.old).capacity (held gotos.old).capacity }
     {
         Parser {
+            source,
             lexer: Lexer::new(source),
             notes: Notes::new(modules, gotos),
         }
@@ -38,9 +38,9 @@ impl<'a, 'n, 'm> Parser<'a, 'n, 'm> {
         ensures { ReadAs result (source_of self.old.lexer) }
     {
         self.program()?;
-        match self.notes.tell() {
+        match self.notes.tell(self.source) {
             Some(fault) => Err(fault),
-            None => Ok(self.notes.program().unwrap()),
+            None => Ok(self.notes.program(self.source).unwrap()),
         }
     }
 }

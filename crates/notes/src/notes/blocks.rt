@@ -1,18 +1,17 @@
 ghost use Rattle.std.specs.Prelude.{◌≡◌};
+ghost use Rattle.words.specs.Bytes.{Text};
 ghost use Rattle.draft.specs.Building.{last_rank};
 ghost use Rattle.events.specs.Notes.{begun, basic_begun, command_noted, turn_noted, finished};
 ghost use Rattle.notes.specs.Kinds.{then_of, current_of};
 ghost use Rattle.notes.specs.Noted.{notes_of, kind_of};
 
-use crate::kinds::{Current, Owner, Then};
+use crate::kinds::{Basic, Current, Owner, Span, Then};
 use crate::notes::operations::fresh_block;
 use crate::notes::rows::{fill, unfilled};
 use crate::notes::{Block, Notes};
 use meaning::faults::Cause;
-use program::blocks::Basic;
 use program::limits::too_many;
 use tape::kinds::Direction;
-use words::Word;
 
 // The rank of the last command of a basic block, or 0: a number, to be compared with those that `command` is given.
 fn last_rank(current: &Current) -> u8
@@ -27,10 +26,10 @@ fn last_rank(current: &Current) -> u8
     }
 }
 
-impl<'n, 'm, 's> Notes<'n, 'm, 's> {
+impl<'n, 'm> Notes<'n, 'm> {
     // A block takes the next number, at a place; it is kept if it is within the limits.
-    pub(super) fn take_number(&mut self, row: Block<Word<'s>>, place: usize)
-        ensures { notes_of self.new ≡ begun place (kind_of row.entry) (notes_of self.old) }
+    pub(super) fn take_number(&mut self, row: Block<Span>, place: usize)
+        ensures { (source : Text) → notes_of source self.new ≡ begun place (kind_of source row) (notes_of source self.old) }
     {
         let over = too_many(self.count, self.width);
         self.count = self.count.saturating_add(1);
@@ -43,7 +42,7 @@ impl<'n, 'm, 's> Notes<'n, 'm, 's> {
 
     // A basic block takes the next number, at a place, and is under construction.
     pub fn begin(&mut self, place: usize)
-        ensures { notes_of self.new ≡ basic_begun place (notes_of self.old) }
+        ensures { (source : Text) → notes_of source self.new ≡ basic_begun place (notes_of source self.old) }
     {
         let number = self.count;
         self.take_number(unfilled(), place);
@@ -52,14 +51,14 @@ impl<'n, 'm, 's> Notes<'n, 'm, 's> {
 
     // The direction of a move.
     pub fn turn(&mut self, direction: Direction)
-        ensures { notes_of self.new ≡ turn_noted direction (notes_of self.old) }
+        ensures { (source : Text) → notes_of source self.new ≡ turn_noted direction (notes_of source self.old) }
     {
         self.current.movement = Some(direction);
     }
 
     // The basic block under construction is finished.
-    pub fn finish(&mut self, then: Then<'s>)
-        ensures { notes_of self.new ≡ finished (then_of then.entry) (notes_of self.old) }
+    pub fn finish(&mut self, then: Then)
+        ensures { (source : Text) → notes_of source self.new ≡ finished (then_of source then) (notes_of source self.old) }
     {
         let basic = Basic {
             write: self.current.write,
@@ -72,7 +71,7 @@ impl<'n, 'm, 's> Notes<'n, 'm, 's> {
     // A command of this rank behind another, at a place: it begins a block, unless its rank is higher.
     // A rank is a number, as any is answered here: an enum would ask more of callers.
     pub fn command(&mut self, rank: u8, place: usize)
-        ensures { notes_of self.new ≡ command_noted rank place (notes_of self.old) }
+        ensures { (source : Text) → notes_of source self.new ≡ command_noted rank place (notes_of source self.old) }
     {
         if last_rank(&self.current) >= rank {
             self.finish(Then::Next(self.count));

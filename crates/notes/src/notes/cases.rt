@@ -1,4 +1,5 @@
 ghost use Rattle.std.specs.Prelude.{◌≡◌};
+ghost use Rattle.words.specs.Bytes.{Text};
 ghost use Rattle.events.specs.Notes.{switch_begun, opened, symbol_noted, symbol_seen, case_entered, switch_ended};
 ghost use Rattle.notes.specs.Noted.{notes_of};
 ghost use Rattle.notes.specs.Switches.{switch_of};
@@ -10,11 +11,11 @@ use crate::notes::rows::switch;
 use crate::switches::OpenSwitch;
 use meaning::faults::Cause;
 
-impl<'n, 'm, 's> Notes<'n, 'm, 's> {
+impl<'n, 'm> Notes<'n, 'm> {
     // A switch begins at a place.
     pub fn open_switch(&mut self, place: usize) -> OpenSwitch
-        ensures noted { notes_of self.new ≡ switch_begun place (notes_of self.old) }
-        ensures opened { switch_of result ≡ opened place (notes_of self.old) }
+        ensures noted { (source : Text) → notes_of source self.new ≡ switch_begun place (notes_of source self.old) }
+        ensures opened { (source : Text) → switch_of result ≡ opened place (notes_of source self.old) }
     {
         let number = self.count;
         self.take_number(switch(), place);
@@ -23,7 +24,7 @@ impl<'n, 'm, 's> Notes<'n, 'm, 's> {
 
     // A symbol of a case of this switch, at a place.
     pub fn symbol(&mut self, symbol: Symbol, switch: &mut OpenSwitch)
-        ensures noted { notes_of self.new ≡ symbol_noted symbol.code symbol.place (switch_of switch.old) (notes_of self.old) }
+        ensures noted { (source : Text) → notes_of source self.new ≡ symbol_noted symbol.code symbol.place (switch_of switch.old) (notes_of source self.old) }
         ensures seen { switch_of switch.new ≡ symbol_seen symbol.code (switch_of switch.old) }
     {
         let again = switch.has_seen(symbol.code);
@@ -37,14 +38,14 @@ impl<'n, 'm, 's> Notes<'n, 'm, 's> {
 
     // The body of the case at hand begins.
     pub fn enter(&mut self, switch: &OpenSwitch)
-        ensures { notes_of self.new ≡ case_entered (switch_of switch.now) (notes_of self.old) }
+        ensures { (source : Text) → notes_of source self.new ≡ case_entered (switch_of switch.now) (notes_of source self.old) }
     {
         self.current = fresh_block(Owner::Arms(switch.number, switch.codes));
     }
 
     // The switch ends.
     pub fn end_switch(&mut self, switch: OpenSwitch)
-        ensures { notes_of self.new ≡ switch_ended (switch_of switch) (notes_of self.old) }
+        ensures { (source : Text) → notes_of source self.new ≡ switch_ended (switch_of switch) (notes_of source self.old) }
     {
         if !switch.covers(self.letters.as_slice()) {
             self.violate(Cause::Missing, switch.first);

@@ -23,6 +23,9 @@ no_command κ w d f es e = grind arith
 pub acted-returns-in_default : goal.acted-returns-in_default
 acted-returns-in_default t c = (search rules, by_way c.last.result _ _ _ (λ k os. c.loop-word.invariant.1 k os ∙ grind (arith, no_command)) c.last.ensures.1)
 
+pub switch-returns-in_default : goal.switch-returns-in_default
+switch-returns-in_default t c = (search rules, by_way c.switch_end.result _ _ _ (λ k os. c.loop-word.invariant.1 k os ∙ search rules) c.switch_end.ensures.1)
+
 pub switch-returns-in_err-case-2 : goal.switch-returns-in_err-case-2
 switch-returns-in_err-case-2 t c = (
   search rules,

@@ -15,13 +15,13 @@ returns-in-Some c = let h = (noted c.args.self.now c.program.new.self c.requires
 pub unwrap-requires : goal.unwrap-requires
 unwrap-requires c =
     let h = noted c.args.self.now c.program.new.self c.requires c.in_ok-program.ensures in
-    let s = noted_stored (source_of c.args.self.now.lexer) (notes_of c.program.new.self.notes) h (sym c.in-None.ensures) (compiled_if c.program-in-None.result) c.program-in-None.ensures in
+    let s = noted_stored (source_of c.args.self.now.lexer) (notes_of c.program.new.self.source.now c.program.new.self.notes) h (sym c.in-None.ensures) (compiled_if c.program-in-None.result) c.program-in-None.ensures in
     let e = s.2 in
     search rules
 
 pub returns-in-None : goal.returns-in-None
 returns-in-None c =
     let h = noted c.args.self.now c.program.new.self c.requires c.in_ok-program.ensures in
-    let s = noted_stored (source_of c.args.self.now.lexer) (notes_of c.program.new.self.notes) h (sym c.in-None.ensures) (compiled_if c.program-in-None.result) c.program-in-None.ensures in
+    let s = noted_stored (source_of c.args.self.now.lexer) (notes_of c.program.new.self.source.now c.program.new.self.notes) h (sym c.in-None.ensures) (compiled_if c.program-in-None.result) c.program-in-None.ensures in
     let e = s.2 in
     (s.0, s.1, search rules)

@@ -11,7 +11,7 @@ returns-then-is_known_before c = grind (arith, nat_tests, met_behind)
 
 pub returns-then-is_taken : goal.returns-then-is_taken
 unfolding notes_of name_told flagged
-returns-then-is_taken c = grind (arith, nat_tests, met_behind)
+returns-then-is_taken c = grind (arith, nat_tests, met_behind, c.violate.ensures c.args.source.now)
 
 pub returns-else-is_taken : goal.returns-else-is_taken
 unfolding notes_of name_told flagged

@@ -7,8 +7,8 @@ use Rattle.notes.proofs.notes.Notes.end_switch.Goals as goal
 
 pub returns-then-not-covers : goal.returns-then-not-covers
 unfolding switch_ended switch_of notes_of flagged
-returns-then-not-covers c = grind (arith, nat_tests)
+returns-then-not-covers c = λ source. grind (arith, nat_tests, c.violate.ensures source)
 
 pub returns-else-not-covers : goal.returns-else-not-covers
 unfolding switch_ended switch_of notes_of flagged
-returns-else-not-covers c = grind (arith, nat_tests)
+returns-else-not-covers c = λ source. grind (arith, nat_tests)

@@ -5,4 +5,4 @@ use Rattle.notes.proofs.notes.Notes.enter.Goals as goal
 
 pub returns : goal.returns
 unfolding notes_of switch_of case_entered with_current
-returns c = cc
+returns c = λ source. cc

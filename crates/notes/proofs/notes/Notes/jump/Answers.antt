@@ -9,6 +9,6 @@ use Rattle.notes.proofs.notes.Notes.jump.Goals as goal
 
 pub returns : goal.returns
 unfolding notes_of jump_noted finished
-returns c =
+returns c = λ source.
     let n = c.finish.new.self in
-    grind (arith, nat_tests, push_kept pending_of (held n.gotos.now) c.args.name n.goto_end, room_push (held n.gotos.now) c.args.name)
+    grind (arith, nat_tests, c.finish.ensures source, push_kept (pending_of source) (held n.gotos.now) c.args.name n.goto_end, room_push (held n.gotos.now) c.args.name)

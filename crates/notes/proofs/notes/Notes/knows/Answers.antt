@@ -13,8 +13,8 @@ with_blank c (l ∷ ls) = grind (arith, nat_tests, with_blank c ls)
 
 pub returns-then-code-eq0 : goal.returns-then-code-eq0
 unfolding is_column notes_of
-returns-then-code-eq0 c = grind (arith, nat_tests, with_blank)
+returns-then-code-eq0 c = λ source. grind (arith, nat_tests, with_blank)
 
 pub returns-else-code-eq0 : goal.returns-else-code-eq0
 unfolding is_column notes_of
-returns-else-code-eq0 c = grind (arith, nat_tests, with_blank, contains_member c.args.code c.as_slice.result.now)
+returns-else-code-eq0 c = λ source. grind (arith, nat_tests, with_blank, contains_member c.args.code c.as_slice.result.now)

@@ -7,8 +7,8 @@ use Rattle.notes.proofs.notes.Notes.letter.Goals as goal
 
 pub returns-then-again : goal.returns-then-again
 unfolding notes_of flagged letter_noted is_column
-returns-then-again c = grind (arith, nat_tests, extended_kept)
+returns-then-again c = λ source. grind (arith, nat_tests, extended_kept, c.knows-again.ensures source, c.violate.ensures source)
 
 pub returns-else-again : goal.returns-else-again
 unfolding notes_of flagged letter_noted is_column
-returns-else-again c = grind (arith, nat_tests, extended_kept)
+returns-else-again c = λ source. grind (arith, nat_tests, extended_kept, c.knows-again.ensures source)

@@ -13,4 +13,4 @@ unfolding notes_of name_noted name_told flagged
 returns c =
     let n = c.check_name.new.self in
     let m : Module = record { name = c.args.name; first = n.count } in
-    grind (arith, nat_tests, push_kept entry_of (held n.modules.now) m n.module_end, room_push (held n.modules.now) m)
+    grind (arith, nat_tests, push_kept (entry_of c.args.source.now) (held n.modules.now) m n.module_end, room_push (held n.modules.now) m)

@@ -6,4 +6,4 @@ use Rattle.notes.proofs.notes.Notes.new.Goals as goal
 
 pub returns : goal.returns
 unfolding notes_of no_notes
-returns c = grind (arith, nat_tests)
+returns c = λ source. grind (arith, nat_tests)

@@ -5,4 +5,4 @@ use Rattle.notes.proofs.notes.Notes.next_number.Goals as goal
 
 pub returns : goal.returns
 unfolding notes_of next_number
-returns c = refl
+returns c = λ source. refl

@@ -6,12 +6,12 @@ use Rattle.notes.proofs.notes.Notes.symbol.Goals as goal
 
 pub returns-then-not-knows-clause-noted : goal.returns-then-not-knows-clause-noted
 unfolding notes_of symbol_noted is_column flagged
-returns-then-not-knows-clause-noted c = grind (arith, nat_tests)
+returns-then-not-knows-clause-noted c = λ source. grind (arith, nat_tests, c.knows.ensures source, c.violate.ensures source)
 
 pub returns-then-again-clause-noted : goal.returns-then-again-clause-noted
 unfolding notes_of symbol_noted is_column flagged
-returns-then-again-clause-noted c = grind (arith, nat_tests)
+returns-then-again-clause-noted c = λ source. grind (arith, nat_tests, c.knows.ensures source, c.violate-then-again.ensures source)
 
 pub returns-else-again-clause-noted : goal.returns-else-again-clause-noted
 unfolding notes_of symbol_noted is_column flagged
-returns-else-again-clause-noted c = grind (arith, nat_tests)
+returns-else-again-clause-noted c = λ source. grind (arith, nat_tests, c.knows.ensures source)

@@ -5,4 +5,4 @@ use Rattle.notes.proofs.notes.Notes.turn.Goals as goal
 
 pub returns : goal.returns
 unfolding notes_of turn_noted with_current
-returns c = refl
+returns c = λ source. refl

@@ -4,4 +4,4 @@ use Rattle.notes.proofs.notes.Notes.violate.Goals as goal
 
 pub returns : goal.returns
 unfolding notes_of flagged
-returns c = cc
+returns c = λ source. cc

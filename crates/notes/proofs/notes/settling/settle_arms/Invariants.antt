@@ -4,9 +4,9 @@ use Rattle.meaning.specs.Blocks.{settled_arms}
 use Rattle.draft.specs.Draft.{first_number}
 use Rattle.program.specs.Store.{arms_as}
 use Rattle.program.specs.Arms.{arms_in}
-use Rattle.notes.specs.Kinds.{entries_of, name_of}
+use Rattle.notes.specs.Kinds.{entries_of, text_in}
 use Rattle.notes.proofs.notes.settling.settle_arms.Given as goal
 
 -- the arms so far are settled
 abbrev pub invariant-loop-arm : goal.invariant-loop-arm
-invariant-loop-arm l = arms_in (items_of l.settled) ≡ settled_arms (first_number (entries_of l.modules)) (arms_as name_of (take l.arm-index l.arm-items))
+invariant-loop-arm l = arms_in (items_of l.settled) ≡ settled_arms (first_number (entries_of l.source l.modules)) (arms_as (text_in l.source) (take l.arm-index l.arm-items))
