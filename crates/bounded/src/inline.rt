@@ -15,7 +15,7 @@ pub struct InlineList<T, const N: usize> {
     ghost within: { count ≤ N },
 }
 
-// By hand, as no derive goes over a ghost field.
+// By hand, as no derive goes over a ghost field of a generic struct.
 impl<T: Copy, const N: usize> Clone for InlineList<T, N> {
     ghost is_clone = { λ a b. b ≡ a };
 

@@ -27,12 +27,8 @@ fn has_arm(arms: &[Arm<u32>], code: u8) -> bool
 fn have_arms(alphabet: &Alphabet, arms: &[Arm<u32>]) -> bool
     ensures { result ≡ all_among (columns (letters_of alphabet.now)) (codes_of arms.now) }
 {
-    let blank = [0];
-    alphabet
-        .letters()
-        .iter()
-        .chain(blank.iter())
-        .all(|code| has_arm(arms, *code))
+    let mut letters = alphabet.letters().iter();
+    letters.all(|code| has_arm(arms, *code)) && has_arm(arms, 0)
 }
 
 // Has the code of each arm a column?

@@ -41,7 +41,7 @@ pub code_below : (a b k : ℕ) (rs : List NonblankCell) → Rising a b rs → k 
 code_below a b k [] h lt = refl
 code_below a b k (r ∷ rs) h lt = let low = h.0 in let rest = code_below (r.cell + 1) b k rs h.3 (omega arith) in grind (arith, nat_tests)
 
-code_most : (a b k : ℕ) (rs : List NonblankCell) → Rising a b rs → code_at rs k ≤ 36
+pub code_most : (a b k : ℕ) (rs : List NonblankCell) → Rising a b rs → code_at rs k ≤ 36
 code_most a b k [] h = omega arith
 code_most a b k (r ∷ rs) h = let most = h.2 in let rest = code_most (r.cell + 1) b k rs h.3 in grind (arith, nat_tests)
 

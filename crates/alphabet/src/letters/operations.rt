@@ -46,13 +46,10 @@ fn are_letters(codes: &[u8]) -> bool
 fn column_in(letters: &InlineList<u8, MAX_LETTERS>, code: u8) -> Option<u8>
     ensures { result ≡ column_at (columns (items_of letters.now)) code }
 {
-    let blank = [0];
-    letters
-        .as_slice()
-        .iter()
-        .chain(blank.iter())
-        .position(|column| code == *column)
-        .map(|place| place as u8)
+    let letters = letters.as_slice();
+    let place = letters.iter().position(|letter| code == *letter);
+    let behind = if code == 0 { Some(letters.len()) } else { None };
+    place.or(behind).map(|column| column as u8)
 }
 
 // The column of each code.
@@ -68,7 +65,8 @@ impl Alphabet {
     pub fn new(letters: &[u8]) -> Option<Alphabet>
         ensures { letters_if result ≡ (if letters_fit letters.now then Some letters.now else None) }
     {
-        if letters.is_empty() || !are_letters(letters) {
+        // the length first, as a long list would be gone through for each of its letters
+        if letters.is_empty() || letters.len() > MAX_LETTERS || !are_letters(letters) {
             return None;
         }
         let mut stored = InlineList::new(0);

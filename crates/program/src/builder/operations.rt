@@ -1,11 +1,12 @@
-ghost use Rattle.std.specs.Prelude.{◌≡◌, ◌*◌, length, if◌then◌else◌, Some, None, Ok, Err};
+ghost use Rattle.std.specs.Prelude.{◌≡◌, ◌*◌, ◌<◌, length, if◌then◌else◌, Some, None, Ok, Err};
 ghost use Rattle.meaning.specs.Blocks.{basic as single, switch};
+ghost use Rattle.meaning.specs.Rules.{kind_at};
 ghost use Rattle.alphabet.specs.Alphabets.{letters_of};
 ghost use Rattle.program.specs.Store.{basic_of};
 ghost use Rattle.program.specs.Arms.{codes_of, arms_in};
 ghost use Rattle.program.specs.Place.{columns_of, count_of};
 ghost use Rattle.program.specs.Built.{built, no_blocks, with_block, has_room, takes_switch, basic_answer, switch_answer, compiled_if};
-ghost use Rattle.program.specs.InRange.{blocks_fit, in_range};
+ghost use Rattle.program.specs.InRange.{kind_fits, blocks_fit, in_range};
 
 use crate::arms::{all_fit, are_whole, write_codes, write_slots};
 use crate::blocks::{Arm, Basic, Shape, UNUSED};
@@ -17,7 +18,8 @@ use alphabet::letters::Alphabet;
 use bounded::inline::InlineList;
 
 impl Builder {
-    // No block yet.
+    // No block yet. Inlined, as `finish` is, since a store is large to hand over.
+    #[inline]
     pub fn new(alphabet: Alphabet) -> Builder
         ensures { built result ≡ no_blocks (letters_of alphabet) }
     {
@@ -81,14 +83,35 @@ impl Builder {
         Ok(())
     }
 
-    // Does each block fit? It does where all slots of the rows do: those of its arms, and those that no block uses.
-    #[tactic(auto, using(crate::proofs::Filled::filled))]
+    // Does the block with this number fit? Only the slots are asked that it uses: the first of its row, or all of them.
+    fn block_fits(&self, number: usize) -> bool
+        requires { number < count_of self.now.store }
+        ensures { result ≡ kind_fits (columns_of self.now.store) (count_of self.now.store) (kind_at (built self.now).blocks number) }
+    {
+        let store = &self.store;
+        let base = number * store.width();
+        let used = match store.shapes.as_slice()[number] {
+            Shape::Single => 1,
+            Shape::Switch => store.width(),
+        };
+        all_fit(
+            &store.alphabet,
+            store.count() as u32,
+            &store.slots[base..base + used],
+        )
+    }
+
+    // Does each block fit? By number: `all` over the slots of all rows would ask those too that no block uses.
+    #[tactic(auto, using(crate::proofs::Filled::blocks_more))]
     fn blocks_fit(&self) -> bool
         ensures { result ≡ blocks_fit (columns_of self.now.store) (count_of self.now.store) (built self.now).blocks }
     {
-        let count = self.store.count();
-        let rows = &self.store.slots[..count * self.store.width()];
-        all_fit(&self.store.alphabet, count as u32, rows)
+        for number in 0..self.store.count() {
+            if !self.block_fits(number) {
+                return false;
+            }
+        }
+        true
     }
 
     // Is there a block, and does each fit?
@@ -100,6 +123,7 @@ impl Builder {
     }
 
     // The program, or nothing where there is no block, or one writes a symbol that is no column or leads to a number that is none of the program's.
+    #[inline]
     pub fn finish(self) -> Option<Program>
         ensures { compiled_if result ≡ (if in_range (built self) then Some (built self) else None) }
     {

@@ -1,5 +1,5 @@
-ghost use Rattle.std.specs.Prelude.{◌≡◌, true, [], ◌∷◌};
-ghost use Rattle.tape.specs.Meaning.{all_codes};
+ghost use Rattle.std.specs.Prelude.{◌≡◌, true, [], ◌∷◌, pos, ◌+ℤ◌};
+ghost use Rattle.tape.specs.Meaning.{all_codes, reached, step_of};
 ghost use Rattle.tape.specs.Dense.{of_cells, dense, dense_fits, dense_check, dense_sound};
 
 use crate::dense::DenseTape;
@@ -46,6 +46,18 @@ fn are_codes(cells: &[u8]) -> bool
     cells.iter().all(|code| *code <= HIGHEST_CODE)
 }
 
+// The cell next to the head that way, or nothing where there is none. It is what `reach` answers at the distance of one step; `reach` takes
+// longer, as it goes by the sign of a distance.
+fn beside(size: usize, head: usize, direction: Direction) -> Option<usize>
+    ensures { result ≡ reached size (pos head +ℤ step_of direction) }
+{
+    let cell = match direction {
+        Direction::Left => head.checked_sub(1)?,
+        Direction::Right => head.checked_add(1)?,
+    };
+    if cell < size { Some(cell) } else { None }
+}
+
 impl<'a> Tape for DenseTape<'a> {
     ghost meaning = { dense };
 
@@ -67,7 +79,7 @@ impl<'a> Tape for DenseTape<'a> {
     }
 
     fn shift(&mut self, direction: Direction) -> Result<(), TapeRefusal> {
-        self.head = reach(self.cells.len(), self.head, direction.step()).ok_or(TapeRefusal::Edge)?;
+        self.head = beside(self.cells.len(), self.head, direction).ok_or(TapeRefusal::Edge)?;
         Ok(())
     }
 }
