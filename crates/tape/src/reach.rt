@@ -7,6 +7,5 @@ pub fn reach(size: usize, head: usize, distance: i32) -> Option<usize>
     ensures { result ≡ reached size (pos head +ℤ distance) }
 {
     let cell = head.checked_add_signed(distance as isize)?;
-    // by a test and not `filter`, with which a display of a dense tape takes five times as long
     if cell < size { Some(cell) } else { None }
 }
